@@ -1,0 +1,6 @@
+pub mod Words
+pub mod Chains
+pub mod Fatgraphs
+pub mod Walks
+pub mod Prices
+pub mod Columns
