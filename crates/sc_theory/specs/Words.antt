@@ -74,7 +74,7 @@ free_reduction w = deleted delete_leftmost (length w) w
 abbrev pub cyclic_reduction : Word → Word
 cyclic_reduction w = deleted delete_cyclically (length w) w
 
--- no letter is the inverse of the next one round the word
+-- a word that allows no deletion
 abbrev pub IsReduced : Word → Type 0
 IsReduced w = delete_cyclically w ≡ None
 
