@@ -1,1 +1,3 @@
 pub mod Vouching
+pub mod ChainLaws
+pub mod OrbitWalks

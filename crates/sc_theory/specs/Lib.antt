@@ -4,3 +4,4 @@ pub mod Fatgraphs
 pub mod Walks
 pub mod Prices
 pub mod Columns
+pub mod Orbits
