@@ -2,6 +2,7 @@
 //! per subject; each public function is a law over them. Beside these there are only the plain data that they speak of.
 #![tactic(auto)]
 
+pub mod chains;
 pub mod fatgraphs;
 pub mod prices;
 
