@@ -2,7 +2,7 @@
 use Rattle.std.specs.Prelude.{◌≡◌, ℕ, zero, suc, ◌+◌, ◌*◌, ◌<◌, ℤ, pos, negsuc, ◌+ℤ◌, ◌-ℤ◌, ◌*ℤ◌, neg_ℤ, ◌≤ℤ◌}
 use Rattle.std.proofs.Common.{arith, refl, sym, ap, ◌∙◌, ◌≤◌, mul-le-mul_left}
 use Rattle.std.proofs.lemmas.Int.{ints}
-use borrow.Author.Differences.{up, down, sum_is_lem, product_is, neg_is, same_in, le_out, at_most_in}
+use borrow.Author.Differences.{up, down, sum_is_lem, product_is, neg_is, le_out}
 use native.Mathlib.Nat.{le_of_mul-le-mul_left}
 use lib.IntN.{neg_ℤ-+ℤ, neg_ℤ-neg_ℤ}
 
