@@ -1,5 +1,5 @@
 -- The sides round a vertex: each turn is a step between labels, and an orbit is a closed walk of them.
-use Rattle.std.proofs.Common.{◌≡◌, ℕ, zero, suc, ◌<◌, List, [], ◌∷◌, length, ℤ, pos, ◌+ℤ◌, arith, refl, sym, ap, subst, ◌∙◌}
+use Rattle.std.proofs.Common.{◌≡◌, ℕ, zero, suc, ◌<◌, length, ℤ, pos, ◌+ℤ◌, arith, sym, ap, subst, ◌∙◌}
 use Rattle.std.proofs.lemmas.Int.{ints}
 use Rattle.std.specs.Fn.{iterate}
 use Rattle.sc_algebra.specs.Permutations.{sum_along}

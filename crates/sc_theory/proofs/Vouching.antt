@@ -1,9 +1,9 @@
 -- Tables that vouch for a list: from an entry of a row on, no walk back to the row's start costs less than the scale.
-use Rattle.std.proofs.Common.{◌≡◌, ◌≢◌, ℕ, ◌<◌, List, [], ◌∷◌, Some, ℤ, pos, ◌+ℤ◌, ◌<ℤ◌, ◌≤ℤ◌, ◌⊎◌, inl, inr, arith, refl, sym, subst}
+use Rattle.std.proofs.Common.{◌≡◌, ℕ, ◌<◌, List, [], ◌∷◌, Some, ℤ, pos, ◌+ℤ◌, ◌<ℤ◌, ◌≤ℤ◌, inl, inr, arith, sym, subst}
 use Rattle.std.proofs.lemmas.Int.{ints}
 use Rattle.std.proofs.lemmas.Bool.{cases_eq}
 use Rattle.sc_theory.specs.Chains.{Chain, positions}
-use Rattle.sc_theory.specs.Walks.{IsStep, WalksBack, IsClosedWalk, total_back, walk_total}
+use Rattle.sc_theory.specs.Walks.{IsStep, WalksBack, total_back}
 use Rattle.sc_theory.specs.Prices.{Prices, price, Tables, entry, Vouch, Covers}
 
 -- a step back to the start that pays for the scale, and the rest from the start on
@@ -30,7 +30,7 @@ module _ (c : Chain) (list : Prices) (tables : Tables) (above : pos 0 <ℤ list.
             let step = subst (λ (x : ℕ). IsStep c i x) same walk.0 in
             let rest = subst (λ (x : ℕ). WalksBack c s x js) same walk.1 in
             subst (λ (x : ℕ). list.scale ≤ℤ (a +ℤ (price c list i x +ℤ total_back (price c list) s x js))) (sym same)
-                (through_start list.scale a _ _ above (vouch.returns s i a inside step present) (along s s js (pos 0) inside (vouch.starts s inside) rest))
+            (through_start list.scale a _ _ above (vouch.returns s i a inside step present) (along s s js (pos 0) inside (vouch.starts s inside) rest))
         | inr other ↦
             let far = vouch.goes s i j a inside walk.0 present other in
             past_start list.scale a far.0 _ _ far.2 (along s j js far.0 inside far.1 walk.1)

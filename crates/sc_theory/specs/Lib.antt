@@ -5,3 +5,4 @@ pub mod Walks
 pub mod Prices
 pub mod Columns
 pub mod Orbits
+pub mod Examples

@@ -11,5 +11,4 @@ ghost use Rattle.sc_theory.specs.Walks.{IsStep, IsClosedWalk};
 pub fn orbits_are_closed_walks()
     ensures steps { (c : Chain) (n : ℕ) (g : Sides) (s : ℕ) → IsFatgraph c n g → s < length g → IsStep c (label g s) (label g (turn g s)) }
     ensures orbits { (c : Chain) (n : ℕ) (g : Sides) (s k : ℕ) → IsFatgraph c n g → s < length g → iterate (turn g) (suc k) s ≡ s → IsClosedWalk c (labels_from g (suc k) s) }
-{
-}
+{}

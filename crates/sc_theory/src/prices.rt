@@ -7,5 +7,4 @@ ghost use Rattle.sc_theory.specs.Prices.{Prices, Tables, Vouch, Covers};
 /// Tables that vouch for a list show that it covers: every closed walk costs at least the scale.
 pub fn vouching_tables_cover()
     ensures { (c : Chain) (list : Prices) (tables : Tables) → pos 0 <ℤ list.scale → Vouch c list tables → Covers c list }
-{
-}
+{}
