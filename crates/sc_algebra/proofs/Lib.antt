@@ -1,2 +1,3 @@
 pub mod Ints
 pub mod Sums
+pub mod Permutations
