@@ -123,7 +123,7 @@ count-sum p (suc n) =
     elim (cases_Bool (p n)) [ inl e ↦ rw e (omega (arith, ints, count-sum p n)) | inr e ↦ rw e (omega (arith, ints, count-sum p n)) ]
 
 pub count-append : (p : ℕ → Bool) (m n : ℕ) → count_below p (m + n) ≡ count_below p m + count_below (λ k. p (m + k)) n
-count-append p m zero = rw add-zero (omega arith)
+count-append p m zero = rw (add-zero m) (omega arith)
 count-append p m (suc n) = rw add-suc (omega (arith, count-append p m n))
 
 pub count_first : (p : ℕ → Bool) (n : ℕ) → count_below p (suc n) ≡ (if p 0 then 1 else 0) + count_below (λ k. p (suc k)) n
