@@ -1,5 +1,7 @@
-pub mod Vouching
 pub mod ChainLaws
-pub mod OrbitWalks
+pub mod ChainSums
 pub mod Decisions
+pub mod FatgraphLaws
+pub mod OrbitWalks
 pub mod Pants
+pub mod Vouching
