@@ -22,7 +22,7 @@ same_next c i j from to =
           ne_eqb (succ c i) (succ c j) apart ∙ sym (ne_eqb i j other)
     ]
 
-ones : (m : ℕ) → sum_below (λ _. pos 1) m ≡ pos m
+pub ones : (m : ℕ) → sum_below (λ _. pos 1) m ≡ pos m
 ones m = sum-const (pos 1) m ∙ mul-one (pos m)
 
 module _ (c : Chain) (n : ℕ) (g : Sides) (is : IsFatgraph c n g) where

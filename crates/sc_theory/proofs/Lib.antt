@@ -4,4 +4,6 @@ pub mod Decisions
 pub mod FatgraphLaws
 pub mod OrbitWalks
 pub mod Pants
+pub mod ReducedWords
+pub mod VertexLaws
 pub mod Vouching
