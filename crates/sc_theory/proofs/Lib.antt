@@ -1,6 +1,7 @@
 pub mod ChainLaws
 pub mod ChainSums
 pub mod Decisions
+pub mod Duality
 pub mod FatgraphLaws
 pub mod OrbitWalks
 pub mod Pants
