@@ -3,6 +3,7 @@ pub mod ChainSums
 pub mod Decisions
 pub mod Duality
 pub mod FatgraphLaws
+pub mod Leastness
 pub mod OrbitWalks
 pub mod Pants
 pub mod ReducedWords
