@@ -7,5 +7,6 @@ pub mod Leastness
 pub mod OrbitWalks
 pub mod Pants
 pub mod ReducedWords
+pub mod SmallChains
 pub mod VertexLaws
 pub mod Vouching
