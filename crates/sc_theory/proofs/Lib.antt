@@ -1,12 +1,15 @@
 pub mod ChainLaws
 pub mod ChainSums
+pub mod ColumnLaws
 pub mod Decisions
 pub mod Duality
 pub mod FatgraphLaws
 pub mod Leastness
+pub mod ListSums
 pub mod OrbitWalks
 pub mod Pants
 pub mod ReducedWords
 pub mod SmallChains
 pub mod VertexLaws
 pub mod Vouching
+pub mod WalkTotals
