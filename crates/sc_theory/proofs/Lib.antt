@@ -1,0 +1,5 @@
+pub mod Vouching
+pub mod ChainLaws
+pub mod OrbitWalks
+pub mod Decisions
+pub mod Pants
