@@ -2,6 +2,8 @@
 //! per subject; each public function is a law over them. Beside these there are only the plain data that they speak of.
 #![tactic(auto)]
 
+pub mod words;
+
 /// A letter of a word: a generator or its inverse.
 #[derive(Clone, Copy, Debug, PartialEq, Eq, PartialOrd, Ord, Hash)]
 pub struct Letter {
