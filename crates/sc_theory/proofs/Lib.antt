@@ -3,3 +3,5 @@ pub mod ChainLaws
 pub mod OrbitWalks
 pub mod Decisions
 pub mod Pants
+pub mod WordLaws
+pub mod Reduction
