@@ -1,5 +1,6 @@
-//! Sums and counts below a bound, and permutations of the numbers below a bound: what the definitions of the subject
-//! stand on and are no part of the subject. Definitions stand in `specs/`; each public function is a law over them.
+//! Products of whole numbers, sums and counts below a bound, and permutations of the numbers below a bound: what the
+//! definitions of the subject stand on and are no part of the subject. Definitions stand in `specs/`; each public
+//! function is a law over them.
 #![tactic(auto)]
 
 ghost use Rattle.std.specs.Fn.{iterate};
@@ -18,7 +19,6 @@ ghost use Rattle.std.specs.Prelude.{
   [],
   length,
   count_by,
-  slice_index_or,
   true,
   ◌*ℤ◌,
   ◌*◌,
@@ -32,6 +32,7 @@ ghost use Rattle.std.specs.Prelude.{
   ◌≢◌,
   ◌≤ℤ◌,
   ◌≤◌,
+  ◌⊎◌,
   ◌∷◌,
   ℕ,
   ℤ,
@@ -57,11 +58,13 @@ pub fn whole_number_order()
 
 /// Sums are sums of their terms: added, multiplied by a factor, compared, cut in two, and taken in either order.
 pub fn laws_of_sums()
-    ensures added { (f g : ℕ → ℤ) (n : ℕ) → sum_below (λ k. f k +ℤ g k) n ≡ sum_below f n +ℤ sum_below g n }
+    ensures added { (f g : ℕ → ℤ) (n : ℕ) →
+        sum_below (λ k. f k +ℤ g k) n ≡ sum_below f n +ℤ sum_below g n }
     ensures negated { (f : ℕ → ℤ) (n : ℕ) → sum_below (λ k. neg_ℤ (f k)) n ≡ neg_ℤ (sum_below f n) }
     ensures multiplied { (a : ℤ) (f : ℕ → ℤ) (n : ℕ) → sum_below (λ k. a *ℤ f k) n ≡ a *ℤ sum_below f n }
     ensures constant { (a : ℤ) (n : ℕ) → sum_below (λ k. a) n ≡ pos n *ℤ a }
-    ensures compared { (f g : ℕ → ℤ) (n : ℕ) → ((k : ℕ) → k < n → f k ≤ℤ g k) → sum_below f n ≤ℤ sum_below g n }
+    ensures compared { (f g : ℕ → ℤ) (n : ℕ) → ((k : ℕ) → k < n → f k ≤ℤ g k) →
+        sum_below f n ≤ℤ sum_below g n }
     ensures cut { (f : ℕ → ℤ) (m n : ℕ) →
         sum_below f (m + n) ≡ sum_below f m +ℤ sum_below (λ k. f (m + k)) n }
     ensures exchanged { (f : ℕ → ℕ → ℤ) (n m : ℕ) →
@@ -91,6 +94,20 @@ pub fn sums_over_lists()
         sum_below (λ k. pos (f (slice_index xs k))) (length xs) ≡ pos (sum_by f xs) }
     ensures counted { (p : ℕ → Bool) (xs : List ℕ) →
         count_below (λ k. p (slice_index xs k)) (length xs) ≡ count_by p xs }
+{}
+
+/// A sum can be taken block by block, and over the places alone where its terms are not 0.
+pub fn sums_in_parts()
+    // the block number w begins at `starts w` and has `sizes w` numbers
+    ensures blocks { (f : ℕ → ℤ) (starts sizes : ℕ → ℕ) (m : ℕ) →
+        starts 0 ≡ 0 → ((w : ℕ) → w < m → starts (suc w) ≡ starts w + sizes w) →
+        sum_below f (starts m) ≡ sum_below (λ w. sum_below (λ k. f (starts w + k)) (sizes w)) m }
+    // no two of the places are the same
+    ensures places { (f : ℕ → ℤ) (place : ℕ → ℕ) (n m : ℕ) →
+        ((w : ℕ) → w < m → place w < n) →
+        ((v w : ℕ) → v < m → w < m → place v ≡ place w → v ≡ w) →
+        ((k : ℕ) → k < n → (f k ≡ pos 0) ⊎ ((w : ℕ) × (w < m) × (place w ≡ k))) →
+        sum_below f n ≡ sum_below (λ w. f (place w)) m }
 {}
 
 /// A permutation of the numbers below a bound comes to each of them.
