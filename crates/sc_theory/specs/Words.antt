@@ -8,6 +8,10 @@ use Rattle.sc_theory.specs.declared.Letter.{Letter}
 abbrev pub Word : Type 0
 Word = List Letter
 
+-- the generator number g as a letter
+abbrev pub generator : ℕ → Letter
+generator g = record { number = g; inverse = false }
+
 -- the letter of the other sign
 abbrev pub inverse_letter : Letter → Letter
 inverse_letter x = record { number = x.number; inverse = not x.inverse }
@@ -92,5 +96,5 @@ pub record FreelyDeletes (w v : Word) : Type 0 where
 
 -- free deletions one after another, in any order
 pub data FreeDeletions : Word → Word → Type 0 where
-  none : {w : Word} → FreeDeletions w w
-  first : {w v u : Word} → FreelyDeletes w v → FreeDeletions v u → FreeDeletions w u
+  no_more : {w : Word} → FreeDeletions w w
+  deletion : {w v u : Word} → FreelyDeletes w v → FreeDeletions v u → FreeDeletions w u
