@@ -5,3 +5,5 @@ pub mod Fatgraphs
 pub mod Walks
 pub mod Prices
 pub mod Columns
+pub mod Orbits
+pub mod Examples

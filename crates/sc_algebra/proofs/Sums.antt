@@ -1,0 +1,194 @@
+-- Laws of sums and counts over the numbers below a bound.
+use Rattle.std.specs.Prelude.{◌≡◌, ◌≢◌, ℕ, zero, suc, ◌+◌, ◌<◌, ◌≤◌, Bool, true, false, cond, not, if◌then◌else◌, ◌==◌, ℤ, pos, ◌+ℤ◌, ◌-ℤ◌, ◌*ℤ◌, neg_ℤ, ◌≤ℤ◌, List, [], ◌∷◌, length, get_or, sum_by, count_by, fold}
+use Rattle.std.proofs.Common.{arith, refl, sym, ap, ap₂, ◌∙◌, inl, inr, add-zero, add-suc, eq-eqb, ne_eqb}
+use Rattle.std.proofs.lemmas.Int.{ints}
+use Rattle.std.proofs.lemmas.Bool.{cases_eq, cases_Bool}
+use Rattle.std.proofs.lemmas.List.Sums.{sum_by-cons}
+use Rattle.sc_algebra.specs.Sums.{sum_below, count_below}
+use Rattle.sc_algebra.proofs.Ints.{mul_add, add_mul}
+
+-- ---- sums
+pub sum-congr : (f g : ℕ → ℤ) (n : ℕ) → ((k : ℕ) → k < n → f k ≡ g k) → sum_below f n ≡ sum_below g n
+sum-congr f g zero h = refl
+sum-congr f g (suc n) h = ap₂ (λ (x y : ℤ). x +ℤ y) (sum-congr f g n (λ k p. h k (omega arith))) (h n (omega arith))
+
+pub sum-add : (f g : ℕ → ℤ) (n : ℕ) → sum_below (λ k. f k +ℤ g k) n ≡ sum_below f n +ℤ sum_below g n
+sum-add f g zero = refl
+sum-add f g (suc n) = omega (arith, ints, sum-add f g n)
+
+pub sum-neg : (f : ℕ → ℤ) (n : ℕ) → sum_below (λ k. neg_ℤ (f k)) n ≡ neg_ℤ (sum_below f n)
+sum-neg f zero = refl
+sum-neg f (suc n) = omega (arith, ints, sum-neg f n)
+
+pub sum-sub : (f g : ℕ → ℤ) (n : ℕ) → sum_below (λ k. f k -ℤ g k) n ≡ sum_below f n -ℤ sum_below g n
+sum-sub f g zero = refl
+sum-sub f g (suc n) = omega (arith, ints, sum-sub f g n)
+
+pub sum-mul_left : (a : ℤ) (f : ℕ → ℤ) (n : ℕ) → sum_below (λ k. a *ℤ f k) n ≡ a *ℤ sum_below f n
+sum-mul_left a f zero = omega (arith, ints)
+sum-mul_left a f (suc n) = ap (λ (x : ℤ). x +ℤ a *ℤ f n) (sum-mul_left a f n) ∙ sym (mul_add a (sum_below f n) (f n))
+
+pub sum-mul_right : (a : ℤ) (f : ℕ → ℤ) (n : ℕ) → sum_below (λ k. f k *ℤ a) n ≡ sum_below f n *ℤ a
+sum-mul_right a f zero = omega (arith, ints)
+sum-mul_right a f (suc n) = ap (λ (x : ℤ). x +ℤ f n *ℤ a) (sum-mul_right a f n) ∙ sym (add_mul (sum_below f n) (f n) a)
+
+pub sum-const : (a : ℤ) (n : ℕ) → sum_below (λ k. a) n ≡ pos n *ℤ a
+sum-const a zero = omega (arith, ints)
+sum-const a (suc n) = omega (arith, ints, sum-const a n)
+
+pub sum-zero : (n : ℕ) → sum_below (λ k. pos 0) n ≡ pos 0
+sum-zero zero = refl
+sum-zero (suc n) = omega (arith, ints, sum-zero n)
+
+-- all terms are 0
+pub sum_zero_each : (f : ℕ → ℤ) (n : ℕ) → ((k : ℕ) → k < n → f k ≡ pos 0) → sum_below f n ≡ pos 0
+sum_zero_each f n h = sum-congr f (λ k. pos 0) n h ∙ sum-zero n
+
+pub sum-le : (f g : ℕ → ℤ) (n : ℕ) → ((k : ℕ) → k < n → f k ≤ℤ g k) → sum_below f n ≤ℤ sum_below g n
+sum-le f g zero h = omega (arith, ints)
+sum-le f g (suc n) h = omega (arith, ints, sum-le f g n (λ k p. h k (omega arith)), h n (omega arith))
+
+-- no term is negative
+pub sum_non_negative : (f : ℕ → ℤ) (n : ℕ) → ((k : ℕ) → k < n → pos 0 ≤ℤ f k) → pos 0 ≤ℤ sum_below f n
+sum_non_negative f n h = omega (arith, ints, sum-zero n, sum-le (λ k. pos 0) f n h)
+
+pub sum-exchange : (f : ℕ → ℕ → ℤ) (n m : ℕ) → sum_below (λ s. sum_below (λ w. f s w) m) n ≡ sum_below (λ w. sum_below (λ s. f s w) n) m
+sum-exchange f zero m = sym (sum-zero m)
+sum-exchange f (suc n) m =
+    ap (λ (x : ℤ). x +ℤ sum_below (λ w. f n w) m) (sum-exchange f n m)
+    ∙ sym (sum-add (λ w. sum_below (λ s. f s w) n) (λ w. f n w) m)
+
+-- all terms but one are 0
+pub sum-single : (f : ℕ → ℤ) (n i : ℕ) → i < n → ((k : ℕ) → k < n → k ≢ i → f k ≡ pos 0) → sum_below f n ≡ f i
+sum-single f zero i p h = absurd (omega arith)
+sum-single f (suc n) i p h =
+    elim (cases_eq i n) [
+      | inl e ↦ omega (arith, ints, ap f e, sum_zero_each f n (λ k q. h k (omega arith) (omega arith)))
+      | inr ne ↦ omega (arith, ints, sum-single f n i (omega arith) (λ k q d. h k (omega arith) d), h n (omega arith) (λ e. ne (sym e)))
+    ]
+
+pub sum-append : (f : ℕ → ℤ) (m n : ℕ) → sum_below f (m + n) ≡ sum_below f m +ℤ sum_below (λ k. f (m + k)) n
+sum-append f m zero = rw add-zero (omega (arith, ints))
+sum-append f m (suc n) = rw add-suc (omega (arith, ints, sum-append f m n))
+
+pub sum_first : (f : ℕ → ℤ) (n : ℕ) → sum_below f (suc n) ≡ f 0 +ℤ sum_below (λ k. f (suc k)) n
+sum_first f zero = omega (arith, ints)
+sum_first f (suc n) = omega (arith, ints, sum_first f n)
+
+-- ---- counts
+pub count-congr : (p q : ℕ → Bool) (n : ℕ) → ((k : ℕ) → k < n → p k ≡ q k) → count_below p n ≡ count_below q n
+count-congr p q zero h = refl
+count-congr p q (suc n) h =
+    ap₂ (λ (x y : ℕ). x + y) (count-congr p q n (λ k l. h k (omega arith))) (ap (λ (b : Bool). cond b 1 0) (h n (omega arith)))
+
+pub count-le : (p : ℕ → Bool) (n : ℕ) → count_below p n ≤ n
+count-le p zero = omega arith
+count-le p (suc n) =
+    elim (cases_Bool (p n)) [ inl e ↦ rw e (omega (arith, count-le p n)) | inr e ↦ rw e (omega (arith, count-le p n)) ]
+
+pub count-all : (p : ℕ → Bool) (n : ℕ) → ((k : ℕ) → k < n → p k ≡ true) → count_below p n ≡ n
+count-all p zero h = refl
+count-all p (suc n) h = rw (h n (omega arith)) (omega (arith, count-all p n (λ k l. h k (omega arith))))
+
+pub count-none : (p : ℕ → Bool) (n : ℕ) → ((k : ℕ) → k < n → p k ≡ false) → count_below p n ≡ 0
+count-none p zero h = refl
+count-none p (suc n) h = rw (h n (omega arith)) (omega (arith, count-none p n (λ k l. h k (omega arith))))
+
+pub count-mono : (p q : ℕ → Bool) (n : ℕ) → ((k : ℕ) → k < n → p k ≡ true → q k ≡ true) → count_below p n ≤ count_below q n
+count-mono p q zero h = omega arith
+count-mono p q (suc n) h =
+    elim (cases_Bool (p n)) [
+      | inl e ↦ rw (e, h n (omega arith) e) (omega (arith, count-mono p q n (λ k l. h k (omega arith))))
+      | inr e ↦ rw e (omega (arith, count-mono p q n (λ k l. h k (omega arith))))
+    ]
+
+-- what passes and what fails make up all
+pub count-not : (p : ℕ → Bool) (n : ℕ) → count_below p n + count_below (λ k. not (p k)) n ≡ n
+count-not p zero = refl
+count-not p (suc n) =
+    elim (cases_Bool (p n)) [ inl e ↦ rw e (omega (arith, count-not p n)) | inr e ↦ rw e (omega (arith, count-not p n)) ]
+
+-- no number, or one at least
+pub count_found : (p : ℕ → Bool) (n i : ℕ) → i < n → p i ≡ true → 0 < count_below p n
+count_found p zero i l e = absurd (omega arith)
+count_found p (suc n) i l e =
+    elim (cases_eq i n) [
+      | inl same ↦ rw (ap p (sym same) ∙ e) (omega arith)
+      | inr apart ↦ omega (arith, count_found p n i (omega arith) e)
+    ]
+
+pub count-sum : (p : ℕ → Bool) (n : ℕ) → pos (count_below p n) ≡ sum_below (λ k. if p k then pos 1 else pos 0) n
+count-sum p zero = refl
+count-sum p (suc n) =
+    elim (cases_Bool (p n)) [ inl e ↦ rw e (omega (arith, ints, count-sum p n)) | inr e ↦ rw e (omega (arith, ints, count-sum p n)) ]
+
+pub count-append : (p : ℕ → Bool) (m n : ℕ) → count_below p (m + n) ≡ count_below p m + count_below (λ k. p (m + k)) n
+count-append p m zero = rw (add-zero m) (omega arith)
+count-append p m (suc n) = rw add-suc (omega (arith, count-append p m n))
+
+pub count_first : (p : ℕ → Bool) (n : ℕ) → count_below p (suc n) ≡ (if p 0 then 1 else 0) + count_below (λ k. p (suc k)) n
+count_first p zero = omega arith
+count_first p (suc n) = omega (arith, count_first p n)
+
+-- ---- counts of pairs and of values
+-- the pairs that pass, counted by their first numbers and by their second
+pub count-exchange : (p : ℕ → ℕ → Bool) (n m : ℕ) → sum_below (λ s. pos (count_below (λ i. p s i) m)) n ≡ sum_below (λ i. pos (count_below (λ s. p s i) n)) m
+count-exchange p n m =
+    sum-congr (λ s. pos (count_below (λ i. p s i) m)) (λ s. sum_below (λ i. if p s i then pos 1 else pos 0) m) n (λ s l. count-sum (λ i. p s i) m)
+    ∙ sum-exchange (λ s i. if p s i then pos 1 else pos 0) n m
+    ∙ sym (sum-congr (λ i. pos (count_below (λ s. p s i) n)) (λ i. sum_below (λ s. if p s i then pos 1 else pos 0) n) m (λ i l. count-sum (λ s. p s i) n))
+
+-- the one number below m that v is
+value_term : (g : ℕ → ℤ) (v m : ℕ) → v < m → sum_below (λ i. pos (if v == i then 1 else 0) *ℤ g i) m ≡ g v
+value_term g v m l =
+    sum-single (λ i. pos (if v == i then 1 else 0) *ℤ g i) m v l (λ i h apart. rw (ne_eqb v i (λ e. apart (sym e))) (omega (arith, ints)))
+    ∙ rw (eq-eqb v v refl) (omega (arith, ints))
+
+-- a sum of a function of f, taken by the values of f
+pub sum_by_value : (f : ℕ → ℕ) (g : ℕ → ℤ) (m n : ℕ) → ((s : ℕ) → s < n → f s < m) → sum_below (λ i. pos (count_below (λ s. f s == i) n) *ℤ g i) m ≡ sum_below (λ s. g (f s)) n
+sum_by_value f g m zero h = sum_zero_each (λ i. pos 0 *ℤ g i) m (λ i l. omega (arith, ints))
+sum_by_value f g m (suc n) h =
+    sum-congr (λ i. pos (count_below (λ s. f s == i) n + (if f n == i then 1 else 0)) *ℤ g i) (λ i. pos (count_below (λ s. f s == i) n) *ℤ g i +ℤ pos (if f n == i then 1 else 0) *ℤ g i) m
+    (λ i l. add_mul (pos (count_below (λ s. f s == i) n)) (pos (if f n == i then 1 else 0)) (g i))
+    ∙ sum-add (λ i. pos (count_below (λ s. f s == i) n) *ℤ g i) (λ i. pos (if f n == i then 1 else 0) *ℤ g i) m
+    ∙ ap₂ (λ (x y : ℤ). x +ℤ y) (sum_by_value f g m n (λ s l. h s (omega arith))) (value_term g (f n) m (h n (omega arith)))
+
+pub count-partition : (f : ℕ → ℕ) (m n : ℕ) → ((s : ℕ) → s < n → f s < m) → sum_below (λ i. pos (count_below (λ s. f s == i) n)) m ≡ pos n
+count-partition f m n h =
+    sum-congr (λ i. pos (count_below (λ s. f s == i) n)) (λ i. pos (count_below (λ s. f s == i) n) *ℤ pos 1) m (λ i l. omega (arith, ints))
+    ∙ sum_by_value f (λ i. pos 1) m n h
+    ∙ sum-const (pos 1) n
+    ∙ omega (arith, ints)
+
+-- exactly one number below n is i
+pub count_one : (n i : ℕ) → i < n → count_below (λ k. k == i) n ≡ 1
+count_one zero i l = absurd (omega arith)
+count_one (suc n) i l =
+    elim (cases_eq n i) [
+      | inl e ↦ rw (eq-eqb n i e) (omega (arith, count-none (λ k. k == i) n (λ k h. ne_eqb k i (λ q. omega arith))))
+      | inr ne ↦ rw (ne_eqb n i ne) (omega (arith, count_one n i (omega arith)))
+    ]
+
+-- ---- over the places of a list
+pub sum-list : {X : Type 0} (f : X → ℕ) (xs : List X) (d : X) → sum_below (λ k. pos (f (get_or xs k d))) (length xs) ≡ pos (sum_by f xs)
+sum-list f [] d = refl
+sum-list f (x ∷ xs) d =
+    sum_first (λ k. pos (f (get_or (x ∷ xs) k d))) (length xs)
+    ∙ ap (λ (y : ℤ). pos (f x) +ℤ y) (sum-list f xs d)
+    ∙ ap pos (sym (sum_by-cons f x xs))
+
+pub count-list : {X : Type 0} (p : X → Bool) (xs : List X) (d : X) → count_below (λ k. p (get_or xs k d)) (length xs) ≡ count_by p xs
+count-list p [] d = refl
+count-list p (x ∷ xs) d =
+    count_first (λ k. p (get_or (x ∷ xs) k d)) (length xs)
+    ∙ ap (λ (y : ℕ). cond (p x) 1 0 + y) (count-list p xs d)
+    ∙ sym (sum_by-cons (λ (y : _). cond (p y) 1 0) x xs)
+
+-- a sum of whole numbers over a list, as a fold
+pub fold_from : {X : Type 0} (f : X → ℤ) (a : ℤ) (xs : List X) → fold (λ s x. s +ℤ f x) a xs ≡ a +ℤ fold (λ s x. s +ℤ f x) (pos 0) xs
+fold_from f a [] = omega (arith, ints)
+fold_from f a (x ∷ xs) = omega (arith, ints, fold_from f (a +ℤ f x) xs, fold_from f (pos 0 +ℤ f x) xs)
+
+pub sum-fold : {X : Type 0} (f : X → ℤ) (xs : List X) (d : X) → sum_below (λ k. f (get_or xs k d)) (length xs) ≡ fold (λ s x. s +ℤ f x) (pos 0) xs
+sum-fold f [] d = refl
+sum-fold f (x ∷ xs) d = omega (arith, ints, sum_first (λ k. f (get_or (x ∷ xs) k d)) (length xs), sum-fold f xs d, fold_from f (pos 0 +ℤ f x) xs)
