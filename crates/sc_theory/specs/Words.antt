@@ -8,10 +8,6 @@ use Rattle.sc_theory.specs.declared.Letter.{Letter}
 abbrev pub Word : Type 0
 Word = List Letter
 
--- the generator number g as a letter
-abbrev pub generator : ℕ → Letter
-generator g = record { number = g; inverse = false }
-
 -- the letter of the other sign
 abbrev pub inverse_letter : Letter → Letter
 inverse_letter x = record { number = x.number; inverse = not x.inverse }

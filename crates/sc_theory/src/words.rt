@@ -2,8 +2,9 @@
 
 ghost use Rattle.std.specs.Prelude.{◌≡◌, ◌↔◌, ℕ, ◌<◌, false, List, [], ◌∷◌, ◌++◌, length, ◌+ℤ◌, neg_ℤ, Some, None};
 ghost use Rattle.sc_theory.specs.declared.Letter.{Letter};
-ghost use Rattle.sc_theory.specs.Words.{Word, generator, inverse_letter, inverse_word, total, delete_leftmost, free_reduction, cyclic_reduction, IsReduced, SameElement, FreelyDeletes, FreeDeletions};
+ghost use Rattle.sc_theory.specs.Words.{Word, inverse_letter, inverse_word, total, delete_leftmost, free_reduction, cyclic_reduction, IsReduced, SameElement, FreelyDeletes, FreeDeletions};
 ghost use Rattle.sc_theory.specs.Places.{cancels_next, IsLeastCancelling};
+ghost use Rattle.sc_theory.specs.Examples.{a, b, a', b'};
 
 /// The inverse of the inverse is the letter, and so it is for words.
 pub fn inverse_twice()
@@ -46,10 +47,13 @@ pub fn reduction_of_reduced()
     ensures cyclic_twice { (w : Word) → cyclic_reduction (cyclic_reduction w) ≡ cyclic_reduction w }
 {}
 
-/// The word `aabABA` allows no free deletion, and its ends are deleted down to `abAB`.
+/// The word `aabABA` allows no free deletion, and its ends are deleted down to `abAB`; `abB` is the same element as `a`,
+/// and `ab` isn't the same as `ba`.
 pub fn reduction_by_example()
-    ensures free { let a = generator 0 in let b = generator 1 in let w = a ∷ a ∷ b ∷ inverse_letter a ∷ inverse_letter b ∷ inverse_letter a ∷ [] in free_reduction w ≡ w }
-    ensures cyclic { let a = generator 0 in let b = generator 1 in cyclic_reduction (a ∷ a ∷ b ∷ inverse_letter a ∷ inverse_letter b ∷ inverse_letter a ∷ []) ≡ a ∷ b ∷ inverse_letter a ∷ inverse_letter b ∷ [] }
+    ensures free { free_reduction (a ∷ a ∷ b ∷ a' ∷ b' ∷ a' ∷ []) ≡ a ∷ a ∷ b ∷ a' ∷ b' ∷ a' ∷ [] }
+    ensures cyclic { cyclic_reduction (a ∷ a ∷ b ∷ a' ∷ b' ∷ a' ∷ []) ≡ a ∷ b ∷ a' ∷ b' ∷ [] }
+    ensures same { SameElement (a ∷ b ∷ b' ∷ []) (a ∷ []) }
+    ensures different { ¬ SameElement (a ∷ b ∷ []) (b ∷ a ∷ []) }
 {}
 
 /// A word is reduced exactly where no letter is the inverse of the next one round the word.
