@@ -10,3 +10,6 @@ pub mod Reduction
 pub mod ReducedWords
 pub mod VertexLaws
 pub mod Vouching
+pub mod Rounds
+pub mod Normal
+pub mod Cyclic
