@@ -8,8 +8,13 @@ pub mod Leastness
 pub mod ListSums
 pub mod OrbitWalks
 pub mod Pants
+pub mod WordLaws
+pub mod Reduction
 pub mod ReducedWords
 pub mod SmallChains
 pub mod VertexLaws
 pub mod Vouching
 pub mod WalkTotals
+pub mod Rounds
+pub mod Normal
+pub mod Cyclic

@@ -7,6 +7,7 @@ pub mod columns;
 pub mod examples;
 pub mod fatgraphs;
 pub mod prices;
+pub mod words;
 
 /// A letter of a word: a generator or its inverse.
 #[derive(Clone, Copy, Debug, PartialEq, Eq, PartialOrd, Ord, Hash)]
