@@ -1,13 +1,14 @@
 //! The definitions at small examples, which tell them from near misses: vertices are no boundaries, sides are counted word
 //! by word, and tables answer for the steps back into their start.
 
-ghost use Rattle.std.specs.Prelude.{◌≡◌, ℕ, ◌*◌, List, [], ◌∷◌, length, pos, ◌↔◌};
+ghost use Rattle.std.specs.Prelude.{◌≡◌, ℕ, ◌*◌, List, [], ◌∷◌, map, length, pos, negsuc, ◌↔◌};
 ghost use Rattle.sc_algebra.specs.Sums.{count_below};
 ghost use Rattle.sc_algebra.specs.Permutations.{is_least_for};
 ghost use Rattle.sc_theory.specs.Chains.{positions, weighted_length};
 ghost use Rattle.sc_theory.specs.Fatgraphs.{next, IsFatgraph, vertices, edges, cost, IsLeast};
 ghost use Rattle.sc_theory.specs.Walks.{IsPolygon};
 ghost use Rattle.sc_theory.specs.Prices.{Vouch, Covers, IsTight};
+ghost use Rattle.sc_theory.specs.Columns.{rows, column, right_side, length_row};
 ghost use Rattle.sc_theory.specs.Examples.{commutator, torus, torus_by_steps, commutator_prices, commutator_tables, twice_round};
 ghost use Rattle.sc_theory.specs.Examples.{opposite_words, annulus, annulus_prices, annulus_tables, pants, free_prices, zero_tables, four_words, two_annuli};
 
@@ -53,6 +54,16 @@ pub fn annulus_list()
     ensures vouch { Vouch opposite_words annulus_prices annulus_tables }
     ensures tight { IsTight opposite_words annulus_prices 1 annulus }
     ensures least { IsLeast opposite_words 1 annulus }
+{}
+
+/// The columns of the walk 0 3 2 1 of the commutator, in the rows of its two pairs and of its word, and of the walk 0 1 of
+/// the two opposite words, in the rows of their pair and of the words.
+pub fn columns_of_walks()
+    ensures rows { rows commutator ≡ 3 }
+    ensures commutator { map (column commutator (0 ∷ 3 ∷ 2 ∷ 1 ∷ [])) (0 ∷ 1 ∷ 2 ∷ []) ≡ pos 0 ∷ pos 0 ∷ pos 1 ∷ [] }
+    ensures opposite { map (column opposite_words (0 ∷ 1 ∷ [])) (0 ∷ 1 ∷ 2 ∷ []) ≡ pos 0 ∷ pos 1 ∷ pos 1 ∷ [] }
+    ensures right_side { map (right_side opposite_words) (0 ∷ 1 ∷ 2 ∷ []) ≡ pos 0 ∷ pos 1 ∷ pos 1 ∷ [] }
+    ensures lengths { map (length_row commutator) (0 ∷ 1 ∷ 2 ∷ []) ≡ pos 2 ∷ negsuc 1 ∷ pos 4 ∷ [] }
 {}
 
 /// Zeros meet every step but those back into the start, and vouch for no list by which a walk is free.
