@@ -76,8 +76,7 @@ pub fn steps_into_the_start_count()
     ensures goes { (s i j : ℕ) → s < positions commutator → IsStep commutator i j → (entry zero_tables s j ≡ Some (pos 0)) × (pos 0 ≤ℤ (pos 0 +ℤ price commutator free_prices i j)) }
     ensures refused { Vouch commutator free_prices zero_tables → ⊥ }
     ensures uncovered { Covers commutator free_prices → ⊥ }
-{
-}
+{}
 
 /// The words a, b and AB have one polygon.
 pub fn polygon_of_the_pants()
