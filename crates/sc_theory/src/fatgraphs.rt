@@ -2,7 +2,7 @@
 
 ghost use Rattle.std.specs.Prelude.{◌≡◌, ℕ, suc, ◌+◌, ◌*◌, ◌<◌, ◌≤◌, length, pos, ◌≤ℤ◌, IsTrue, ◌↔◌};
 ghost use Rattle.std.specs.Fn.{iterate};
-ghost use Rattle.sc_algebra.specs.Permutations.{is_least_for};
+ghost use Rattle.sc_algebra.specs.Permutations.{IsPermutation, is_least_for};
 ghost use Rattle.sc_theory.specs.Chains.{Chain, IsChain, IsBalanced, word, positions, weighted_length, first, word_of};
 ghost use Rattle.sc_theory.specs.Fatgraphs.{Sides, label, turn, quota, sides_at, edges, cost, IsFatgraph};
 ghost use Rattle.sc_theory.specs.Orbits.{labels_from};
@@ -17,8 +17,11 @@ pub fn copies_count_the_sides()
     ensures balanced { (c : Chain) (n : ℕ) (g : Sides) → IsFatgraph c n g → IsBalanced c }
 {}
 
-/// To turn round a vertex is a step between labels, so the labels round a vertex are a closed walk.
+/// To turn permutes the sides and comes back to each, within as many turns as there are sides. To turn is a step between
+/// labels, so the labels round a vertex are a closed walk.
 pub fn orbits_are_closed_walks()
+    ensures permutes { (c : Chain) (n : ℕ) (g : Sides) → IsFatgraph c n g → IsPermutation (turn g) (length g) }
+    ensures comes_back { (c : Chain) (n : ℕ) (g : Sides) (s : ℕ) → IsFatgraph c n g → s < length g → (k : ℕ) × (k < length g) × (iterate (turn g) (suc k) s ≡ s) }
     ensures steps { (c : Chain) (n : ℕ) (g : Sides) (s : ℕ) → IsFatgraph c n g → s < length g → IsStep c (label g s) (label g (turn g s)) }
     ensures orbits { (c : Chain) (n : ℕ) (g : Sides) (s k : ℕ) → IsFatgraph c n g → s < length g → iterate (turn g) (suc k) s ≡ s → IsClosedWalk c (labels_from g (suc k) s) }
 {}
