@@ -13,7 +13,7 @@ abbrev pub inverse_letter : Letter → Letter
 inverse_letter x = record { number = x.number; inverse = not x.inverse }
 
 -- whether two signs are the same
-abbrev same_sign : Bool → Bool → Bool
+abbrev pub same_sign : Bool → Bool → Bool
 same_sign true b = b
 same_sign false b = not b
 
@@ -81,3 +81,16 @@ IsReduced w = delete_cyclically w ≡ None
 -- the same element of the free group: the first followed by the inverse of the second reduces to nothing
 abbrev pub SameElement : Word → Word → Type 0
 SameElement u v = free_reduction (u ++ inverse_word v) ≡ []
+
+-- a free deletion anywhere in a word: some letter and its inverse after it are taken out
+pub record FreelyDeletes (w v : Word) : Type 0 where
+  pub before : Word
+  pub letter : Letter
+  pub after : Word
+  pub from : w ≡ before ++ letter ∷ inverse_letter letter ∷ after
+  pub to : v ≡ before ++ after
+
+-- free deletions one after another, in any order
+pub data FreeDeletions : Word → Word → Type 0 where
+  no_more : {w : Word} → FreeDeletions w w
+  deletion : {w v u : Word} → FreelyDeletes w v → FreeDeletions v u → FreeDeletions w u

@@ -2,6 +2,12 @@
 //! per subject; each public function is a law over them. Beside these there are only the plain data that they speak of.
 #![tactic(auto)]
 
+pub mod chains;
+pub mod examples;
+pub mod fatgraphs;
+pub mod prices;
+pub mod words;
+
 /// A letter of a word: a generator or its inverse.
 #[derive(Clone, Copy, Debug, PartialEq, Eq, PartialOrd, Ord, Hash)]
 pub struct Letter {

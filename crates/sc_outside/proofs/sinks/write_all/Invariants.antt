@@ -1,0 +1,15 @@
+use Rattle.std.proofs.Common.{◌≡◌, ◌≤◌, ◌-◌, length, take, IsTrue}
+use Rattle.sc_outside.specs.Told.{Took}
+use Rattle.sc_outside.proofs.sinks.write_all.Given as goal
+
+-- the front of the bytes was taken, and no fault is forgotten
+abbrev pub invariant-loop-written : goal.invariant-loop-written
+invariant-loop-written g l = record {
+  within : l.written ≤ length l.bytes;
+  taken : Took (g.K.Sink.taken l.initial.sink) (g.K.Sink.taken l.sink) (take l.written l.bytes);
+  count : g.K.Sink.faults l.initial.sink ≤ g.K.Sink.faults l.sink;
+  stands : IsTrue (g.K.Sink.stands l.initial.sink) → IsTrue (g.K.Sink.stands l.sink);
+}
+
+abbrev pub decreases-loop-written : goal.decreases-loop-written
+decreases-loop-written g l = length l.bytes - l.written
