@@ -15,8 +15,7 @@ pub fn copies_count_the_sides()
     ensures positions { (c : Chain) (n : ℕ) (g : Sides) (i : ℕ) → IsFatgraph c n g → i < positions c → sides_at g i ≡ quota c n (word_of c i) }
     ensures length { (c : Chain) (n : ℕ) (g : Sides) → IsFatgraph c n g → length g ≡ n * weighted_length c }
     ensures balanced { (c : Chain) (n : ℕ) (g : Sides) → IsFatgraph c n g → IsBalanced c }
-{
-}
+{}
 
 /// To turn round a vertex is a step between labels, so the labels round a vertex are a closed walk.
 pub fn orbits_are_closed_walks()
@@ -27,17 +26,14 @@ pub fn orbits_are_closed_walks()
 /// The test in the number of vertices asks for no iterate below the side, however often `turn` is applied.
 pub fn vertices_are_least_sides()
     ensures { (c : Chain) (n : ℕ) (g : Sides) (s : ℕ) → IsFatgraph c n g → s < length g → IsTrue (is_least_for (turn g) (length g) s) ↔ ((k : ℕ) → s ≤ iterate (turn g) k s) }
-{
-}
+{}
 
 /// Two sides make an edge.
 pub fn sides_are_even()
     ensures { (c : Chain) (n : ℕ) (g : Sides) → IsFatgraph c n g → length g ≡ 2 * edges g }
-{
-}
+{}
 
 /// There are at least as many edges as vertices, since no word of a chain has a letter beside its inverse.
 pub fn cost_is_never_negative()
     ensures { (c : Chain) (n : ℕ) (g : Sides) → IsChain c → IsFatgraph c n g → pos 0 ≤ℤ cost g }
-{
-}
+{}
