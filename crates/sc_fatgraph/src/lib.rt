@@ -1,0 +1,15 @@
+//! Labelled fatgraphs over a chain: the test of a list of sides, which answers a fatgraph exactly where the list is one
+//! and else its first flaw, and the counts of a fatgraph's sides, vertices and edges.
+#![tactic(auto)]
+
+mod flaws;
+pub mod laws;
+pub mod limits;
+mod orbits;
+mod side_list;
+mod surface;
+
+pub use flaws::{FlawKind, SurfaceFault};
+pub use sc_theory::Side;
+pub use side_list::Sides;
+pub use surface::{Counts, Fatgraph};
