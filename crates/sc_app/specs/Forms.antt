@@ -1,0 +1,13 @@
+-- The forms of the command line.
+use Rattle.std.specs.Prelude.{◌≡◌, ℕ, List, [], ◌∷◌, map, codes, String, string_bytes}
+use Rattle.std.specs.declared.alloc.Global.{Global}
+use Rattle.sc_app.specs.declared.command.Command.{Command}
+use Rattle.sc_app.specs.declared.command.Command.TheVariants.{Surface}
+
+-- the words as bytes
+abbrev pub bytes_of : List (String Global) → List (List ℕ)
+bytes_of words = map string_bytes words
+
+-- the words are the form of the command
+abbrev pub IsForm : Command → List (List ℕ) → Type 0
+IsForm Surface words = words ≡ codes "surface" ∷ []

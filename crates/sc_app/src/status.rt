@@ -1,0 +1,44 @@
+//! How a call of the program ended.
+
+ghost use Rattle.std.specs.Prelude.{◌≡◌};
+ghost use Rattle.sc_app.specs.Codes.{code_of};
+
+/// What of the input is over its limit.
+#[derive(Clone, Copy, Debug, PartialEq, Eq)]
+pub enum What {
+    /// More bytes came than the command reads.
+    Bytes,
+}
+
+/// How a call of the program ended.
+#[derive(Clone, Copy, Debug, PartialEq, Eq)]
+pub enum Status {
+    /// The command's text was written.
+    Done,
+    /// The words match no form; nothing was read.
+    Usage,
+    /// The input is over a limit.
+    Large(What),
+    /// The source failed.
+    ReadFault,
+    /// The sink of the text failed; it has taken a prefix of the text.
+    WriteFault,
+    /// There was no memory.
+    Memory,
+}
+
+impl Status {
+    /// The code that the program ends with.
+    pub fn code(&self) -> u8
+        ensures { result ≡ code_of self.now }
+    {
+        match self {
+            Status::Done => 0,
+            Status::Usage => 2,
+            Status::Large(_) => 4,
+            Status::ReadFault => 8,
+            Status::WriteFault => 9,
+            Status::Memory => 10,
+        }
+    }
+}
