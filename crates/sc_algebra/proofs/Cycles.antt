@@ -153,13 +153,13 @@ walk_to_skip m t (suc (suc k)) s =
     ]
 
 -- what is asked of a test, and of what the walks that return cost
-abbrev Finds : (ℕ → ℕ) → ℕ → (ℕ → Bool) → Type 0
+abbrev pub Finds : (ℕ → ℕ) → ℕ → (ℕ → Bool) → Type 0
 Finds t n p = (s : ℕ) → s < n → IsTrue (p s) → (k : ℕ) → s ≤ iterate t k s
 
-abbrev FindsAll : (ℕ → ℕ) → ℕ → (ℕ → Bool) → Type 0
+abbrev pub FindsAll : (ℕ → ℕ) → ℕ → (ℕ → Bool) → Type 0
 FindsAll t n p = (s : ℕ) → s < n → ((k : ℕ) → s ≤ iterate t k s) → IsTrue (p s)
 
-abbrev Costs : (ℕ → ℕ) → ℕ → (ℕ → ℤ) → ℤ → Type 0
+abbrev pub Costs : (ℕ → ℕ) → ℕ → (ℕ → ℤ) → ℤ → Type 0
 Costs t n f d = (s k : ℕ) → s < n → iterate t (suc k) s ≡ s → d ≤ℤ sum_along f t (suc k) s
 
 -- with m left out, the test finds the same

@@ -1,5 +1,5 @@
 -- Laws of sums and counts over the numbers below a bound.
-use Rattle.std.specs.Prelude.{◌≡◌, ◌≢◌, ℕ, zero, suc, ◌+◌, ◌<◌, ◌≤◌, Bool, true, false, cond, not, if◌then◌else◌, ◌==◌, ℤ, pos, ◌+ℤ◌, ◌-ℤ◌, ◌*ℤ◌, neg_ℤ, ◌≤ℤ◌, List, [], ◌∷◌, length, get_or, sum_by, count_by, fold}
+use Rattle.std.specs.Prelude.{◌≡◌, ◌≢◌, ◌⊎◌, ℕ, zero, suc, ◌+◌, ◌<◌, ◌≤◌, Bool, true, false, cond, not, if◌then◌else◌, ◌==◌, ℤ, pos, ◌+ℤ◌, ◌-ℤ◌, ◌*ℤ◌, neg_ℤ, ◌≤ℤ◌, List, [], ◌∷◌, length, get_or, sum_by, count_by, fold}
 use Rattle.std.proofs.Common.{arith, refl, sym, ap, ap₂, ◌∙◌, inl, inr, add-zero, add-suc, eq-eqb, ne_eqb}
 use Rattle.std.proofs.lemmas.Int.{ints}
 use Rattle.std.proofs.lemmas.Bool.{cases_eq, cases_Bool}
@@ -192,3 +192,43 @@ fold_from f a (x ∷ xs) = omega (arith, ints, fold_from f (a +ℤ f x) xs, fold
 pub sum-fold : {X : Type 0} (f : X → ℤ) (xs : List X) (d : X) → sum_below (λ k. f (get_or xs k d)) (length xs) ≡ fold (λ s x. s +ℤ f x) (pos 0) xs
 sum-fold f [] d = refl
 sum-fold f (x ∷ xs) d = omega (arith, ints, sum_first (λ k. f (get_or (x ∷ xs) k d)) (length xs), sum-fold f xs d, fold_from f (pos 0 +ℤ f x) xs)
+
+-- ---- sums that are cut or picked out
+-- block by block: the block number w begins at `starts w` and has `sizes w` numbers
+pub sum_blocks : (f : ℕ → ℤ) (starts sizes : ℕ → ℕ) (m : ℕ) → starts 0 ≡ 0 → ((w : ℕ) → w < m → starts (suc w) ≡ starts w + sizes w) → sum_below f (starts m) ≡ sum_below (λ w. sum_below (λ k. f (starts w + k)) (sizes w)) m
+sum_blocks f starts sizes zero first step = ap (sum_below f) first
+sum_blocks f starts sizes (suc m) first step =
+    ap (sum_below f) (step m (omega arith))
+    ∙ sum-append f (starts m) (sizes m)
+    ∙ ap (λ (x : ℤ). x +ℤ sum_below (λ k. f (starts m + k)) (sizes m)) (sum_blocks f starts sizes m first (λ w l. step w (omega arith)))
+
+-- a weight for each second number, as often as a pair with it passes
+pub count_weighed : (p : ℕ → ℕ → Bool) (g : ℕ → ℤ) (n m : ℕ) → sum_below (λ i. pos (count_below (λ s. p s i) n) *ℤ g i) m ≡ sum_below (λ s. sum_below (λ i. if p s i then g i else pos 0) m) n
+count_weighed p g zero m = sum_zero_each (λ i. pos 0 *ℤ g i) m (λ i l. omega (arith, ints))
+count_weighed p g (suc n) m =
+    sum-congr (λ i. pos (count_below (λ s. p s i) (suc n)) *ℤ g i) (λ i. pos (count_below (λ s. p s i) n) *ℤ g i +ℤ (if p n i then g i else pos 0)) m (λ i l. one_more i)
+    ∙ sum-add (λ i. pos (count_below (λ s. p s i) n) *ℤ g i) (λ i. if p n i then g i else pos 0) m
+    ∙ ap (λ (x : ℤ). x +ℤ sum_below (λ i. if p n i then g i else pos 0) m) (count_weighed p g n m)
+  where
+    one_more : (i : ℕ) → pos (count_below (λ s. p s i) n + (if p n i then 1 else 0)) *ℤ g i ≡ pos (count_below (λ s. p s i) n) *ℤ g i +ℤ (if p n i then g i else pos 0)
+    one_more i = elim (cases_Bool (p n i)) [ inl e ↦ rw e (omega (arith, ints)) | inr e ↦ rw e (omega (arith, ints)) ]
+
+-- f is 0 but at the places `at w`, no two of which are the same
+pub sum_at_places : (f : ℕ → ℤ) (at : ℕ → ℕ) (n m : ℕ) → ((w : ℕ) → w < m → at w < n) → ((v w : ℕ) → v < m → w < m → at v ≡ at w → v ≡ w) → ((k : ℕ) → k < n → (f k ≡ pos 0) ⊎ ((w : ℕ) × (w < m) × (at w ≡ k))) → sum_below f n ≡ sum_below (λ w. f (at w)) m
+sum_at_places f at n m inside apart cases =
+    sum-congr f (λ k. sum_below (λ w. if at w == k then f k else pos 0) m) n (λ k l. sym (at_k k (cases k l)))
+    ∙ sum-exchange (λ k w. if at w == k then f k else pos 0) n m
+    ∙ sum-congr (λ w. sum_below (λ k. if at w == k then f k else pos 0) n) (λ w. f (at w)) m at_w
+  where
+    at_k : (k : ℕ) → (f k ≡ pos 0) ⊎ ((w : ℕ) × (w < m) × (at w ≡ k)) → sum_below (λ w. if at w == k then f k else pos 0) m ≡ f k
+    at_k k (inl none) =
+        sum_zero_each (λ w. if at w == k then f k else pos 0) m (λ w l. rw none (elim (cases_Bool (at w == k)) [ inl e ↦ rw e | inr e ↦ rw e ]))
+        ∙ sym none
+    at_k k (inr (w, l, e)) =
+        sum-single (λ w. if at w == k then f k else pos 0) m w l (λ v h other. rw (ne_eqb (at v) k (λ c. other (apart v w h l (c ∙ sym e)))))
+        ∙ rw (eq-eqb (at w) k e)
+
+    at_w : (w : ℕ) → w < m → sum_below (λ k. if at w == k then f k else pos 0) n ≡ f (at w)
+    at_w w l =
+        sum-single (λ k. if at w == k then f k else pos 0) n (at w) (inside w l) (λ k h other. rw (ne_eqb (at w) k (λ c. other (sym c))))
+        ∙ rw (eq-eqb (at w) (at w) refl)

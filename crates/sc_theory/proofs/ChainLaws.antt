@@ -167,3 +167,9 @@ neighbours_at c w k inside =
 
 pub neighbours : (c : Chain) (i : ℕ) → i < positions c → Neighbours c i
 neighbours c i inside = let a = at c i inside in subst (Neighbours c) (sym a.here) (neighbours_at c a.w a.k a.in_word)
+
+-- a word with a place is a word of the chain
+pub word_inside : (c : Chain) (w k : ℕ) → k < length (word c w) → w < length c
+word_inside [] w k inside = absurd (omega arith)
+word_inside (u ∷ c) zero k inside = omega arith
+word_inside (u ∷ c) (suc w) k inside = omega (arith, word_inside c w k inside)

@@ -1,7 +1,15 @@
-pub mod Vouching
 pub mod ChainLaws
-pub mod OrbitWalks
+pub mod ChainSums
 pub mod Decisions
+pub mod Duality
+pub mod FatgraphLaws
+pub mod OrbitWalks
 pub mod Pants
 pub mod WordLaws
 pub mod Reduction
+pub mod ReducedWords
+pub mod VertexLaws
+pub mod Vouching
+pub mod Rounds
+pub mod Normal
+pub mod Cyclic

@@ -92,5 +92,5 @@ pub record FreelyDeletes (w v : Word) : Type 0 where
 
 -- free deletions one after another, in any order
 pub data FreeDeletions : Word → Word → Type 0 where
-  none : {w : Word} → FreeDeletions w w
-  first : {w v u : Word} → FreelyDeletes w v → FreeDeletions v u → FreeDeletions w u
+  no_more : {w : Word} → FreeDeletions w w
+  deletion : {w v u : Word} → FreelyDeletes w v → FreeDeletions v u → FreeDeletions w u
