@@ -2,6 +2,7 @@
 #![tactic(auto)]
 
 mod command;
+mod note;
 mod status;
 
 pub use command::{Command, command_of};

@@ -8,6 +8,10 @@ ghost use Rattle.sc_app.specs.Codes.{code_of};
 pub enum What {
     /// More bytes came than the command reads.
     Bytes,
+    /// So many words are left after reduction.
+    Words(u32),
+    /// So many positions are left after reduction.
+    Positions(u32),
 }
 
 /// How a call of the program ended.
