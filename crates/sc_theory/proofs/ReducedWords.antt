@@ -55,7 +55,7 @@ twice true = refl
 inverse_twice : (x : Letter) → inverse_letter (inverse_letter x) ≡ x
 inverse_twice x = ap (λ (b : Bool). record { number = x.number; inverse = b }) (twice x.inverse)
 
-inverse_before : (x y : Letter) → x ≡ inverse_letter y → is_inverse x y ≡ true
+pub inverse_before : (x y : Letter) → x ≡ inverse_letter y → is_inverse x y ≡ true
 inverse_before x y e = ap (is_inverse x) (sym (inverse_twice y) ∙ sym (ap inverse_letter e)) ∙ is_inverse_of x
 
 inverse_after : (x y : Letter) → x ≡ inverse_letter y → is_inverse y x ≡ true

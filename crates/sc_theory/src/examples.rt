@@ -5,7 +5,7 @@ ghost use Rattle.std.specs.Prelude.{◌≡◌, ℕ, ◌*◌, List, [], ◌∷◌
 ghost use Rattle.sc_algebra.specs.Sums.{count_below};
 ghost use Rattle.sc_algebra.specs.Permutations.{is_least_for};
 ghost use Rattle.sc_theory.specs.Chains.{positions, weighted_length};
-ghost use Rattle.sc_theory.specs.Fatgraphs.{next, IsFatgraph, vertices, edges, cost};
+ghost use Rattle.sc_theory.specs.Fatgraphs.{next, IsFatgraph, vertices, edges, cost, IsLeast};
 ghost use Rattle.sc_theory.specs.Walks.{IsPolygon};
 ghost use Rattle.sc_theory.specs.Prices.{Vouch, Covers, IsTight};
 ghost use Rattle.sc_theory.specs.Examples.{commutator, torus, torus_by_steps, commutator_prices, commutator_tables, twice_round};
@@ -40,17 +40,19 @@ pub fn sides_are_counted_by_word()
     ensures refused { IsFatgraph four_words 1 two_annuli → ⊥ }
 {}
 
-/// Tables vouch for a list of the commutator, and the list is tight for the torus.
+/// Tables vouch for a list of the commutator, and the list is tight for the torus, so the torus is least.
 pub fn commutator_list()
     ensures fatgraph { IsFatgraph commutator 1 torus_by_steps }
     ensures vouch { Vouch commutator commutator_prices commutator_tables }
     ensures tight { IsTight commutator commutator_prices 1 torus_by_steps }
+    ensures least { IsLeast commutator 1 torus_by_steps }
 {}
 
-/// Tables vouch for a list of the two opposite words, and the list is tight for the annulus.
+/// Tables vouch for a list of the two opposite words, and the list is tight for the annulus, so the annulus is least.
 pub fn annulus_list()
     ensures vouch { Vouch opposite_words annulus_prices annulus_tables }
     ensures tight { IsTight opposite_words annulus_prices 1 annulus }
+    ensures least { IsLeast opposite_words 1 annulus }
 {}
 
 /// Zeros meet every step but those back into the start, and vouch for no list by which a walk is free.

@@ -1,0 +1,201 @@
+//! Chains, and the tables by which their positions are looked up.
+
+ghost use Rattle.std.specs.Prelude.{◌≡◌, ◌≢◌, ◌<◌, ◌≤◌, ◌^◌, ◌+◌, ◌↔◌, length, IfOk, IsErrOf, OnOk, vec_len};
+ghost use Rattle.std.specs.List.{All};
+ghost use Rattle.sc_theory.specs.Chains.{positions, weighted_length, letter, succ, prev, first, word_of, weight};
+ghost use Rattle.sc_chain.specs.declared.limits.TheConstants.{GENERATORS, MAX_POSITIONS};
+ghost use Rattle.sc_chain.specs.Faults.{AreGoodBelow};
+ghost use Rattle.sc_chain.specs.Tables.{AppendsBelow, AreTables};
+
+use crate::fault::ChainFault;
+use crate::faults::{first_fault, weigh};
+use crate::word::Word;
+use sc_theory::Letter;
+use std::alloc::{AllocError, Global};
+use std::marker::Model;
+
+/// What is known of a position: its letter, the positions after and before it round its word, and that word.
+#[derive(Clone, Copy, Debug)]
+struct Place {
+    letter: Letter,
+    next: usize,
+    previous: usize,
+    word: usize,
+}
+
+/// A list of nonempty reduced words with their weights, within the limits of `limits`. Its positions are numbered from 0
+/// through the words in their order, and the words from 0.
+#[derive(Debug, Drop)]
+pub struct Chain {
+    words: Vec<(u32, Word)>,
+    places: Vec<Place>,
+    firsts: Vec<usize>,
+    length: u64,
+}
+
+impl Model for Chain {
+    ghost use Rattle.std.specs.Prelude.{ℕ, List};
+    ghost use Rattle.sc_theory.specs.declared.Letter.{Letter};
+
+    ghost Value = { List (ℕ × List Letter) };
+
+    ghost use Rattle.sc_chain.specs.Inside.{IsInside};
+
+    ghost view = { λ c. c.words.items };
+
+    ghost invariant = { IsInside };
+}
+
+/// The tables of a chain: an entry per position, and the first position of each word.
+#[derive(Drop)]
+struct Tables {
+    places: Vec<Place>,
+    firsts: Vec<usize>,
+}
+
+/// Writes the entries of a word behind those of the words before it.
+fn append_word(places: &mut Vec<Place>, word: &[Letter], number: usize) -> Result<(), AllocError>
+    requires { vec_len places.old + length word.now < 2 ^ 64 }
+    ensures { OnOk result (AppendsBelow places.old.items places.new.items word.now number (length word.now)) }
+{
+    let first = places.len();
+    let end = first + word.len();
+    for (place, letter) in word.iter().enumerate() {
+        let here = first + place;
+        places.push(Place {
+            letter: *letter,
+            next: if here + 1 == end { first } else { here + 1 },
+            previous: if here == first { end - 1 } else { here - 1 },
+            word: number,
+        })?;
+    }
+    Ok(())
+}
+
+/// The tables of a list of few words.
+fn tables_of(alloc: Global, words: &[(u32, Word)]) -> Result<Tables, AllocError>
+    requires few { positions words.now ≤ MAX_POSITIONS }
+    requires good { AreGoodBelow words.now (length words.now) }
+    ensures { IfOk result (λ t. AreTables words.now t.places.items t.firsts.items) }
+{
+    let mut places = Vec::new(alloc);
+    let mut firsts = Vec::new(alloc);
+    for (number, entry) in words.iter().enumerate() {
+        firsts.push(places.len())?;
+        append_word(&mut places, entry.1.as_slice(), number)?;
+    }
+    Ok(Tables { places, firsts })
+}
+
+impl Chain {
+    ghost use Rattle.sc_chain.specs.Faults.{IsSmallChain, IsFaultOf, AreGenerators, IsAccepted};
+    ghost use Rattle.sc_chain.specs.declared.fault.ChainFault.{ChainFault as AnyFault};
+
+    /// The chain of these weights and words. It is refused where a word is empty or not reduced, the first such word
+    /// deciding; then for too many words, too many positions, too great a weighted length, in this order.
+    pub fn of_reduced(alloc: Global, words: Vec<(u32, Word)>) -> Result<Chain, ChainFault>
+        requires generators { AreGenerators words.items }
+        requires letters { positions words.items < 2 ^ 32 }
+        ensures ok { IfOk result (λ c. c ≡ words.items) }
+        ensures small { IfOk result IsSmallChain }
+        ensures faults { (e : AnyFault) → e ≢ ChainFault.Memory → (IsErrOf result e ↔ IsFaultOf words.items e) }
+    {
+        match first_fault(words.as_slice()) {
+            Some(fault) => Err(fault),
+            None => Ok(Chain::of_accepted(alloc, words)?),
+        }
+    }
+
+    /// The chain of a list of words without a fault.
+    fn of_accepted(alloc: Global, words: Vec<(u32, Word)>) -> Result<Chain, AllocError>
+        requires generators { AreGenerators words.items }
+        requires accepted { IsAccepted words.items }
+        ensures { IfOk result (λ c. c ≡ words.items) }
+    {
+        let length = weigh(words.as_slice());
+        let Tables { places, firsts } = tables_of(alloc, words.as_slice())?;
+        Ok(Chain {
+            words,
+            places,
+            firsts,
+            length,
+        })
+    }
+
+    /// How many words there are.
+    pub fn words(&self) -> usize
+        ensures words { result ≡ length self.now }
+        ensures small { IsSmallChain self.now }
+    {
+        self.words.len()
+    }
+
+    /// How many positions there are.
+    pub fn positions(&self) -> usize
+        ensures positions { result ≡ positions self.now }
+        ensures small { IsSmallChain self.now }
+    {
+        self.places.len()
+    }
+
+    /// The sum of weight times number of letters over the words.
+    pub fn length(&self) -> u64
+        ensures length { result ≡ weighted_length self.now }
+        ensures small { IsSmallChain self.now }
+    {
+        self.length
+    }
+
+    /// The letter at a position.
+    pub fn letter(&self, i: usize) -> Letter
+        requires { i < positions self.now }
+        ensures letter { result ≡ letter self.now i }
+        ensures generator { result.number < GENERATORS }
+    {
+        self.places[i].letter
+    }
+
+    /// The next position round its word.
+    pub fn succ(&self, i: usize) -> usize
+        requires { i < positions self.now }
+        ensures succ { result ≡ succ self.now i }
+        ensures in_range { result < positions self.now }
+    {
+        self.places[i].next
+    }
+
+    /// The position before it round its word.
+    pub fn prev(&self, i: usize) -> usize
+        requires { i < positions self.now }
+        ensures prev { result ≡ prev self.now i }
+        ensures in_range { result < positions self.now }
+    {
+        self.places[i].previous
+    }
+
+    /// The first position of a word.
+    pub fn first_of(&self, w: usize) -> usize
+        requires { w < length self.now }
+        ensures first { result ≡ first self.now w }
+        ensures in_range { result < positions self.now }
+    {
+        self.firsts[w]
+    }
+
+    /// The word in which a position lies.
+    pub fn word_of(&self, i: usize) -> usize
+        requires { i < positions self.now }
+        ensures word { result ≡ word_of self.now i }
+        ensures in_range { result < length self.now }
+    {
+        self.places[i].word
+    }
+
+    /// The weight of a word.
+    pub fn weight(&self, w: usize) -> u32
+        requires { w < length self.now }
+        ensures { result ≡ weight self.now w }
+    {
+        self.words[w].0
+    }
+}

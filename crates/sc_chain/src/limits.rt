@@ -1,0 +1,16 @@
+//! What a chain may hold at most.
+
+/// The generators: their numbers, for `a` to `z`, are below this.
+pub const GENERATORS: u8 = 26;
+
+/// The words of a chain.
+pub const MAX_WORDS: usize = 32;
+
+/// The positions of a chain: the letters of all its words.
+pub const MAX_POSITIONS: usize = 64;
+
+/// The weighted length of a chain: the sum of weight times number of letters.
+pub const MAX_LENGTH: u64 = 1_048_576;
+
+/// The size of a coefficient in a chain text.
+pub const MAX_COEFFICIENT: i32 = 1000;

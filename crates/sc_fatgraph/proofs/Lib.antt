@@ -1,0 +1,3 @@
+pub mod MarkWalks
+pub mod MarkedOrbits
+pub mod NextMarks

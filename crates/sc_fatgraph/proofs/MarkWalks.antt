@@ -1,0 +1,94 @@
+-- A walk round a vertex that marks each side that it comes through.
+use Rattle.std.proofs.Common.{cond, ◌≡◌, ◌≢◌, ℕ, zero, suc, ◌+◌, ◌<◌, ◌≤◌, Bool, true, false, ◌⊎◌, inl, inr, List, length, get_or, sym, ◌∙◌, ap, subst, refl, arith, not, get_or-set_other, get_or-set_same}
+use Rattle.std.specs.Fn.{iterate}
+use Rattle.std.specs.List.{count_by}
+use Rattle.std.proofs.Math.ListN.{set, length-set}
+use Rattle.std.proofs.lemmas.Bool.{cases_eq}
+use Rattle.std.proofs.lemmas.List.Sums.{sum_by-set}
+use Rattle.sc_algebra.proofs.Cycles.{iterate-last}
+use Rattle.sc_theory.specs.Fatgraphs.{Sides, mate, next, turn}
+use Rattle.sc_fatgraph.specs.Orbits.{IsRibbon, IsInOrbit, IsMarked, IsClosed}
+
+pub turn_in_range : (g : Sides) → IsRibbon g → (s : ℕ) → s < length g → turn g s < length g
+turn_in_range g r s h = r.mates (next g s) (r.nexts s h)
+
+-- what the walk keeps: the marks so far are those before it and sides of the orbit, and with a marked side the next one
+-- round the vertex is marked or is the one where the walk stands
+pub record WalksOn (g : Sides) (before : List Bool) (start : ℕ) (marks : List Bool) (side : ℕ) : Type 0 where
+  pub in_range : side < length g
+  pub as_many : length marks ≡ length g
+  pub reached : IsInOrbit g start side
+  pub closed : (s : ℕ) → s < length g → IsMarked marks s → IsMarked marks (turn g s) ⊎ (turn g s ≡ side)
+  pub begun : IsMarked marks start ⊎ (side ≡ start)
+  pub kept : (s : ℕ) → IsMarked before s → IsMarked marks s
+  pub in_orbit : (s : ℕ) → IsMarked marks s → IsMarked before s ⊎ IsInOrbit g start s
+
+pub walk_begins : (g : Sides) (marks : List Bool) (start : ℕ) → start < length g → length marks ≡ length g → IsClosed g marks → WalksOn g marks start marks start
+walk_begins g marks start h e c = record {
+  in_range = h;
+  as_many = e;
+  reached = (0, refl);
+  closed = λ s l m. inl (c s l m);
+  begun = inr refl;
+  kept = λ s m. m;
+  in_orbit = λ s m. inl m;
+}
+
+-- a mark is the new one or an old one
+mark_cases : (marks : List Bool) (i s : ℕ) → IsMarked (set marks i true) s → (s ≡ i) ⊎ IsMarked marks s
+mark_cases marks i s m =
+    elim (cases_eq s i) [
+      | inl e ↦ inl e
+      | inr n ↦ let ne : s ≢ i = n in inr (rw get_or-set_other at m)
+    ]
+
+mark_kept : (marks : List Bool) (i s : ℕ) → i < length marks → IsMarked marks s → IsMarked (set marks i true) s
+mark_kept marks i s l m =
+    elim (cases_eq s i) [
+      | inl e ↦ rw e (rw get_or-set_same refl)
+      | inr n ↦ let ne : s ≢ i = n in rw get_or-set_other m
+    ]
+
+pub walk_goes_on : (g : Sides) (before : List Bool) (start : ℕ) (marks : List Bool) (side : ℕ) → IsRibbon g → WalksOn g before start marks side → WalksOn g before start (set marks side true) (turn g side)
+walk_goes_on g before start marks side r w =
+    let l : side < length marks = omega (arith, w.in_range, w.as_many) in
+    record {
+      in_range = turn_in_range g r side w.in_range;
+      as_many = length-set marks side true ∙ w.as_many;
+      reached = (suc w.reached.0, iterate-last (turn g) w.reached.0 start ∙ ap (turn g) w.reached.1);
+      closed = λ s h m.
+          elim (mark_cases marks side s m) [
+            | inl e ↦ inr (ap (turn g) e)
+            | inr old ↦
+                elim (w.closed s h old) [
+                  | inl n ↦ inl (mark_kept marks side (turn g s) l n)
+                  | inr e ↦ inl (rw e (rw get_or-set_same refl))
+                ]
+          ];
+      begun =
+          elim w.begun [
+            | inl m ↦ inl (mark_kept marks side start l m)
+            | inr e ↦ inl (rw (← e) (rw get_or-set_same refl))
+          ];
+      kept = λ s m. mark_kept marks side s l (w.kept s m);
+      in_orbit = λ s m.
+          elim (mark_cases marks side s m) [
+            | inl e ↦ inr (w.reached.0, w.reached.1 ∙ sym e)
+            | inr old ↦ w.in_orbit s old
+          ];
+    }
+
+-- the walk ends at a side that is marked
+pub walk_ends : (g : Sides) (before : List Bool) (start : ℕ) (marks : List Bool) (side : ℕ) → WalksOn g before start marks side → IsMarked marks side → IsClosed g marks
+walk_ends g before start marks side w m s h n =
+    elim (w.closed s h n) [ inl now ↦ now | inr e ↦ rw e m ]
+
+pub walk_has_start : (g : Sides) (before : List Bool) (start : ℕ) (marks : List Bool) (side : ℕ) → WalksOn g before start marks side → IsMarked marks side → IsMarked marks start
+walk_has_start g before start marks side w m =
+    elim w.begun [ inl now ↦ now | inr e ↦ rw (← e) m ]
+
+-- each step leaves one side fewer without a mark
+pub unmarked_falls : (marks : List Bool) (i : ℕ) → i < length marks → get_or marks i false ≡ false → count_by not (set marks i true) < count_by not marks
+unmarked_falls marks i l e =
+    let s = sum_by-set (λ b. cond (not b) 1 0) marks i true false l in
+    omega (arith, rw e at s)

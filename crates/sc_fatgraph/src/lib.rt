@@ -1,0 +1,11 @@
+//! Labelled fatgraphs over a chain: the test of a list of sides, which answers a fatgraph exactly where the list is one
+//! and else its first flaw, and the counts of a fatgraph's sides, vertices and edges.
+#![tactic(auto)]
+
+mod flaws;
+mod orbits;
+mod side_list;
+
+pub use flaws::{FlawKind, SurfaceFault};
+pub use sc_theory::Side;
+pub use side_list::Sides;
