@@ -1,11 +1,12 @@
 //! The notes: a line for each status but `Done`.
 
-ghost use Rattle.std.specs.Prelude.{◌≡◌, ◌++◌, Option, OnOk, OnErr, IsTrue, ◌≤◌};
+ghost use Rattle.std.specs.Prelude.{◌≡◌, ◌≤◌, [], ◌∷◌, ◌++◌, Option, OnOk, OnErr, IsTrue};
 ghost use Rattle.sc_outside.specs.Faults.{Rose};
 ghost use Rattle.sc_outside.specs.Told.{Took, TookPart};
-ghost use Rattle.sc_app.specs.Notes.{note_of, number_text, text_of};
+ghost use Rattle.sc_app.specs.Notes.{name_of, note_of, number_text, text_of};
 
 use itoa::Buffer;
+use sc_chain::Kind;
 use sc_outside::{Failed, Sink, write_all};
 
 use crate::status::{Status, What};
@@ -28,12 +29,35 @@ fn plain(before: &'static [u8]) -> Note
     }
 }
 
+fn malformed_end(kind: Kind) -> &'static [u8]
+    ensures { result.now ≡ 32 ∷ name_of kind ++ 10 ∷ [] }
+{
+    match kind {
+        Kind::Coefficient => b" coefficient\n",
+        Kind::MissingWord => b" missing-word\n",
+        Kind::Letter => b" letter\n",
+        Kind::Extra => b" extra\n",
+        Kind::NotAscii => b" not-ascii\n",
+        Kind::Separator => b" separator\n",
+        Kind::Form => b" form\n",
+        Kind::Range => b" range\n",
+        Kind::NotReduced => b" not-reduced\n",
+        Kind::Ended => b" ended\n",
+        Kind::Rest => b" rest\n",
+    }
+}
+
 fn note_of_status(status: &Status) -> Note
     ensures { text_of result.before.now result.number result.after.now ≡ note_of status.now }
 {
     match status {
         Status::Done => plain(b""),
         Status::Usage => plain(b"scallop: usage: surface\n"),
+        Status::Malformed { line, kind } => Note {
+            before: b"scallop: malformed line ",
+            number: Some(*line),
+            after: malformed_end(*kind),
+        },
         Status::Large(What::Bytes) => plain(b"scallop: large bytes\n"),
         Status::Large(What::Words(count)) => Note {
             before: b"scallop: large words ",

@@ -3,6 +3,8 @@
 ghost use Rattle.std.specs.Prelude.{◌≡◌};
 ghost use Rattle.sc_app.specs.Codes.{code_of};
 
+use sc_chain::Kind;
+
 /// What of the input is over its limit.
 #[derive(Clone, Copy, Debug, PartialEq, Eq)]
 pub enum What {
@@ -21,6 +23,8 @@ pub enum Status {
     Done,
     /// The words match no form; nothing was read.
     Usage,
+    /// This line of the input, counted from 1, is the first malformed one, and this kind is the first that applies.
+    Malformed { line: u32, kind: Kind },
     /// The input is over a limit.
     Large(What),
     /// The source failed.
@@ -39,6 +43,7 @@ impl Status {
         match self {
             Status::Done => 0,
             Status::Usage => 2,
+            Status::Malformed { .. } => 3,
             Status::Large(_) => 4,
             Status::ReadFault => 8,
             Status::WriteFault => 9,
