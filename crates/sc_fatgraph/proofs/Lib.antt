@@ -1,3 +1,5 @@
 pub mod MarkWalks
 pub mod MarkedOrbits
 pub mod NextMarks
+pub mod LabelCounts
+pub mod FlawLaws

@@ -1,2 +1,4 @@
 pub mod Orbits
 pub mod Flaws
+pub mod Faults
+pub mod Surfaces

@@ -3,9 +3,13 @@
 #![tactic(auto)]
 
 mod flaws;
+pub mod laws;
+pub mod limits;
 mod orbits;
 mod side_list;
+mod surface;
 
 pub use flaws::{FlawKind, SurfaceFault};
 pub use sc_theory::Side;
 pub use side_list::Sides;
+pub use surface::{Counts, Fatgraph};

@@ -1,7 +1,7 @@
 -- The length row: a step from i to j adds 1 and moves from the place of i in its word to that of j, so a closed walk comes to
 -- its number of steps.
-use Rattle.std.proofs.Common.{◌≡◌, ◌≢◌, ℕ, zero, suc, ◌+◌, ◌-◌, ◌<◌, ◌≤◌, Bool, true, false, ◌&&◌, eqb, ltb, cond, if◌then◌else◌, List, [], ◌∷◌, map, length, get_or, ℤ, pos, ◌+ℤ◌, ◌-ℤ◌, ◌*ℤ◌, ◌⊎◌, inl, inr, arith, refl, sym, ap, subst, ◌∙◌}
-use Rattle.std.specs.List.{filter, flat_map, range_with_len, count_by}
+use Rattle.std.proofs.Common.{◌≡◌, ◌≢◌, ℕ, suc, ◌+◌, ◌-◌, ◌<◌, ◌≤◌, Bool, true, false, ◌&&◌, eqb, ltb, cond, if◌then◌else◌, List, map, length, get_or, ℤ, pos, ◌+ℤ◌, ◌-ℤ◌, ◌*ℤ◌, inl, inr, arith, refl, sym, ap, ◌∙◌}
+use Rattle.std.specs.List.{filter}
 use Rattle.std.proofs.lemmas.Int.{ints}
 use Rattle.std.proofs.lemmas.Bool.{cases_lt, cases_eq, cases_order, lt-ltb, le-ltb, eq-eqb, ne_eqb, cond-true, cond-false, and_from, and_left}
 use Rattle.sc_algebra.specs.Sums.{sum_below}
@@ -11,8 +11,8 @@ use Rattle.sc_theory.specs.Words.{is_inverse}
 use Rattle.sc_theory.specs.Chains.{Chain, word, positions, first, word_of, letter, succ, prev}
 use Rattle.sc_theory.specs.Walks.{IsStep, IsClosedWalk, walk_total}
 use Rattle.sc_theory.specs.Prices.{is_pair, all_positions, pairs}
-use Rattle.sc_theory.specs.Columns.{rows, pair_at, word_at, steps_of, passes, column, place_in_word, length_row}
-use Rattle.sc_theory.proofs.ChainLaws.{at, At, place, word_of_place, succ_within, succ_last, neighbours, first-suc}
+use Rattle.sc_theory.specs.Columns.{rows, pair_at, word_at, column, place_in_word, length_row}
+use Rattle.sc_theory.proofs.ChainLaws.{at, At, place, word_of_place, succ_within, succ_last, neighbours}
 use Rattle.sc_theory.proofs.Decisions.{inverse_of_step}
 use Rattle.sc_theory.proofs.ReducedWords.{inverse_before}
 use Rattle.sc_theory.proofs.ListSums.{list_sum, list_sum_is, list_sum-flat_map, list_sum-map, list_sum-filter, list_sum-below}
@@ -41,8 +41,8 @@ column_is c walk k =
     let q : ℕ = (pair_at c k).1 in
     let test : ℕ → Bool = λ b. eqb b (first c (word_at c k)) in
     walk_total_choice (ltb k (length (pairs c))) _ _ (pair_part c p q) (ends_at test) walk
-      (sym (walk_total-sub (at_step (prev c p) q) (at_step (prev c q) p) walk))
-      (sym (walk_total-ends test walk))
+    (sym (walk_total-sub (at_step (prev c p) q) (at_step (prev c q) p) walk))
+    (sym (walk_total-ends test walk))
 
 -- tests of equal numbers
 eqb_comm : (a b : ℕ) → eqb a b ≡ eqb b a
@@ -136,8 +136,8 @@ at_pair c i j pq = (pos (place_in_word c pq.0) -ℤ pos (place_in_word c pq.1)) 
 pair_row : (c : Chain) (i j k : ℕ) → k < length (pairs c) → length_row c k *ℤ step_column c k i j ≡ at_pair c i j (pair_at c k)
 pair_row c i j k inside =
     ap (λ (b : Bool). (if b then pos (place_in_word c (pair_at c k).0) -ℤ pos (place_in_word c (pair_at c k).1) else pos (length (word c (word_at c k))))
-      *ℤ (if b then pair_part c (pair_at c k).0 (pair_at c k).1 i j else ends_at (λ x. eqb x (first c (word_at c k))) i j))
-      (lt-ltb k (length (pairs c)) inside)
+    *ℤ (if b then pair_part c (pair_at c k).0 (pair_at c k).1 i j else ends_at (λ x. eqb x (first c (word_at c k))) i j))
+    (lt-ltb k (length (pairs c)) inside)
 
 -- a sum over the pairs, as a sum over all pairs of positions
 sum_pairs : (c : Chain) (f : ℕ × ℕ → ℤ) → list_sum f (pairs c) ≡ sum_below (λ p. sum_below (λ q. if is_pair c p q then f (p, q) else pos 0) (positions c)) (positions c)
@@ -145,9 +145,9 @@ sum_pairs c f =
     list_sum-flat_map f (λ p. map (λ q. (p, q)) (filter (is_pair c p) (all_positions c))) (all_positions c)
     ∙ list_sum-below (λ p. list_sum f (map (λ q. (p, q)) (filter (is_pair c p) (all_positions c)))) (positions c)
     ∙ sum-congr _ _ (positions c) (λ p _.
-        list_sum-map f (λ q. (p, q)) (filter (is_pair c p) (all_positions c))
-        ∙ list_sum-filter (λ q. f (p, q)) (is_pair c p) (all_positions c)
-        ∙ list_sum-below (λ q. if is_pair c p q then f (p, q) else pos 0) (positions c))
+    list_sum-map f (λ q. (p, q)) (filter (is_pair c p) (all_positions c))
+    ∙ list_sum-filter (λ q. f (p, q)) (is_pair c p) (all_positions c)
+    ∙ list_sum-below (λ q. if is_pair c p q then f (p, q) else pos 0) (positions c))
 
 -- the step's sum over the rows of pairs
 module _ (c : Chain) (i j : ℕ) (step : IsStep c i j) where
@@ -184,8 +184,8 @@ word_row c i j w =
     let k : ℕ = length (pairs c) + w in
     let e : word_at c k ≡ w = omega arith in
     ap (λ (b : Bool). (if b then pos (place_in_word c (pair_at c k).0) -ℤ pos (place_in_word c (pair_at c k).1) else pos (length (word c (word_at c k))))
-      *ℤ (if b then pair_part c (pair_at c k).0 (pair_at c k).1 i j else ends_at (λ x. eqb x (first c (word_at c k))) i j))
-      (le-ltb k (length (pairs c)) (omega arith))
+    *ℤ (if b then pair_part c (pair_at c k).0 (pair_at c k).1 i j else ends_at (λ x. eqb x (first c (word_at c k))) i j))
+    (le-ltb k (length (pairs c)) (omega arith))
     ∙ ap (word_entry c j) e
 
 empty_word : (c : Chain) (j w : ℕ) → w ≢ word_of c j → j ≡ first c w → length (word c w) ≡ 0
@@ -212,7 +212,7 @@ nothing m o e = omega (arith, ints)
 own_word : (c : Chain) (j v : ℕ) → v ≡ word_of c j → word_entry c j v ≡ pos (place_in_word c j) -ℤ pos (offset c j)
 own_word c j v here =
     let place_is : place_in_word c j ≡ cond (eqb j (first c v)) (length (word c v)) (j - first c v) =
-        ap (λ (w : ℕ). cond (eqb j (first c w)) (length (word c w)) (j - first c w)) (sym here) in
+    ap (λ (w : ℕ). cond (eqb j (first c w)) (length (word c w)) (j - first c w)) (sym here) in
     let offset_is : offset c j ≡ j - first c v = ap (λ (w : ℕ). j - first c w) (sym here) in
     elim (cases_eq j (first c v)) [
       | inl same ↦

@@ -1,10 +1,10 @@
 -- Two labelled fatgraphs over one chain have edges in the ratio of their copies, so the one with more vertices a copy costs
 -- less a copy.
-use Rattle.std.proofs.Common.{◌≡◌, ℕ, zero, suc, ◌+◌, ◌*◌, ◌<◌, ◌≤◌, length, ℤ, pos, negsuc, ◌+ℤ◌, ◌-ℤ◌, ◌*ℤ◌, ◌≤ℤ◌, ◌<ℤ◌, arith, refl, sym, ap, subst, ◌∙◌}
+use Rattle.std.proofs.Common.{◌≡◌, ℕ, ◌*◌, ◌≤◌, ℤ, pos, negsuc, ◌-ℤ◌, ◌*ℤ◌, ◌≤ℤ◌, ◌<ℤ◌, arith, sym, ap, subst, ◌∙◌}
 use Rattle.std.proofs.lemmas.Int.{ints}
 use Rattle.sc_algebra.proofs.Ints.{mul_comm, mul_assoc, mul_left_comm, sub_mul, pos-mul, mul-le_right, cancel_le, le-pos}
 use Rattle.sc_theory.specs.Chains.{Chain, IsChain, weighted_length}
-use Rattle.sc_theory.specs.Fatgraphs.{Sides, vertices, edges, cost, IsFatgraph, IsLeast}
+use Rattle.sc_theory.specs.Fatgraphs.{Sides, vertices, edges, IsFatgraph, IsLeast}
 use Rattle.sc_theory.specs.Prices.{Prices, Covers, bound, IsTight}
 use Rattle.sc_theory.proofs.FatgraphLaws.{length_is}
 use Rattle.sc_theory.proofs.VertexLaws.{even_sides}
@@ -18,14 +18,14 @@ cancel_positive (negsuc d) a b above h = absurd above.lt
 vertices_by_copies : (d b : ℤ) (v v' n n' : ℕ) → pos 0 <ℤ d → d *ℤ pos v ≡ pos n *ℤ b → (d *ℤ pos v') ≤ℤ (pos n' *ℤ b) → v' * n ≤ v * n'
 vertices_by_copies d b v v' n n' above tight bounded =
     let left : (d *ℤ pos v') *ℤ pos n ≡ d *ℤ pos (v' * n) =
-        mul_assoc d (pos v') (pos n) ∙ ap (λ (x : ℤ). d *ℤ x) (sym (pos-mul v' n)) in
+    mul_assoc d (pos v') (pos n) ∙ ap (λ (x : ℤ). d *ℤ x) (sym (pos-mul v' n)) in
     let right : (pos n' *ℤ b) *ℤ pos n ≡ d *ℤ pos (v * n') =
-        mul_assoc (pos n') b (pos n)
-        ∙ ap (λ (x : ℤ). pos n' *ℤ x) (mul_comm b (pos n) ∙ sym tight)
-        ∙ mul_left_comm (pos n') d (pos v)
-        ∙ ap (λ (x : ℤ). d *ℤ x) (mul_comm (pos n') (pos v) ∙ sym (pos-mul v n')) in
+    mul_assoc (pos n') b (pos n)
+    ∙ ap (λ (x : ℤ). pos n' *ℤ x) (mul_comm b (pos n) ∙ sym tight)
+    ∙ mul_left_comm (pos n') d (pos v)
+    ∙ ap (λ (x : ℤ). d *ℤ x) (mul_comm (pos n') (pos v) ∙ sym (pos-mul v n')) in
     let scaled : (d *ℤ pos (v' * n)) ≤ℤ (d *ℤ pos (v * n')) =
-        subst (λ (x : ℤ). (d *ℤ pos (v' * n)) ≤ℤ x) right (subst (λ (x : ℤ). x ≤ℤ ((pos n' *ℤ b) *ℤ pos n)) left (mul-le_right n _ _ bounded)) in
+    subst (λ (x : ℤ). (d *ℤ pos (v' * n)) ≤ℤ x) right (subst (λ (x : ℤ). x ≤ℤ ((pos n' *ℤ b) *ℤ pos n)) left (mul-le_right n _ _ bounded)) in
     le-pos _ _ (cancel_positive d _ _ above scaled)
 
 -- edges are as the copies
@@ -48,5 +48,5 @@ least c list n g chain above covers is tight n' g' is' =
     let here : n * weighted_length c ≡ 2 * edges g = sym (length_is c n g is) ∙ even_sides c n g is in
     let there : n' * weighted_length c ≡ 2 * edges g' = sym (length_is c n' g' is') ∙ even_sides c n' g' is' in
     costs_by_copies (edges g) (edges g') (vertices g) (vertices g') n n'
-      (edges_by_copies (weighted_length c) (edges g) (edges g') n n' here there)
-      (vertices_by_copies list.scale (bound c list) (vertices g) (vertices g') n n' above tight (duality c list n' g' is' chain covers))
+    (edges_by_copies (weighted_length c) (edges g) (edges g') n n' here there)
+    (vertices_by_copies list.scale (bound c list) (vertices g) (vertices g') n n' above tight (duality c list n' g' is' chain covers))

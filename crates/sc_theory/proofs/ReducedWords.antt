@@ -1,10 +1,10 @@
 -- In a word that allows no deletion no letter is followed by its inverse, round the word.
-use Rattle.std.proofs.Common.{◌≡◌, ◌≢◌, ℕ, zero, suc, pred, ◌+◌, ◌<◌, Bool, true, false, not, ◌&&◌, eqb, if◌then◌else◌, List, [], ◌∷◌, length, get_or, Option, Some, None, ◌⊎◌, inl, inr, arith, refl, sym, ap, subst, ◌∙◌}
+use Rattle.std.proofs.Common.{◌≡◌, ℕ, zero, suc, ◌+◌, ◌<◌, Bool, true, false, not, if◌then◌else◌, [], ◌∷◌, length, get_or, Option, Some, None, inl, inr, arith, refl, sym, ap, subst, ◌∙◌}
 use Rattle.std.specs.Option.{option_map, option_or}
-use Rattle.std.proofs.lemmas.Bool.{cases_lt, cases_Bool, eq-eqb, cond-true, false≢true}
+use Rattle.std.proofs.lemmas.Bool.{cases_lt, false≢true}
 use Rattle.sc_theory.specs.declared.Letter.{Letter}
-use Rattle.sc_theory.specs.Words.{Word, inverse_letter, is_inverse, delete_leftmost, delete_ends, delete_cyclically, last_letter, all_but_last, IsReduced}
-use Rattle.sc_theory.specs.Chains.{Chain, IsChain, no_letter, word, positions, first, letter, succ}
+use Rattle.sc_theory.specs.Words.{Word, inverse_letter, is_inverse, delete_leftmost, delete_ends, last_letter, all_but_last}
+use Rattle.sc_theory.specs.Chains.{Chain, IsChain, no_letter, word, first, letter, succ}
 use Rattle.sc_theory.specs.Walks.{IsStep}
 use Rattle.sc_theory.proofs.Decisions.{is_inverse_of}
 use Rattle.sc_theory.proofs.ChainLaws.{at, At, word_inside, letter_place, succ_within, succ_last}

@@ -1,7 +1,7 @@
 -- The chains of the examples are chains: no word is empty, and none allows a deletion.
-use Rattle.std.proofs.Common.{◌≡◌, ◌≢◌, ℕ, zero, suc, ◌<◌, [], length, arith, refl}
+use Rattle.std.proofs.Common.{◌≢◌, ℕ, zero, suc, ◌<◌, [], arith, refl}
 use Rattle.sc_theory.specs.Words.{IsReduced}
-use Rattle.sc_theory.specs.Chains.{Chain, IsChain, word}
+use Rattle.sc_theory.specs.Chains.{IsChain, word}
 use Rattle.sc_theory.specs.Examples.{commutator, opposite_words}
 
 commutator_words : (w : ℕ) → w < 1 → word commutator w ≢ []

@@ -11,5 +11,4 @@ ghost use Rattle.sc_theory.specs.Columns.{rows, column, length_row};
 pub fn length_row_counts_the_steps()
     ensures polygons { (c : Chain) (walk : List ℕ) → IsPolygon c walk → sum_below (λ k. length_row c k *ℤ column c walk k) (rows c) ≡ pos (length walk) }
     ensures walks { (c : Chain) (walk : List ℕ) → IsClosedWalk c walk → sum_below (λ k. length_row c k *ℤ column c walk k) (rows c) ≡ pos (length walk) }
-{
-}
+{}

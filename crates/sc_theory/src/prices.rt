@@ -16,13 +16,11 @@ pub fn vouching_tables_cover()
 pub fn covering_lists_bound_the_vertices()
     ensures counts { (c : Chain) (list : Prices) (n : ℕ) (g : Sides) → IsChain c → Covers c list → IsFatgraph c n g → (list.scale *ℤ pos (vertices g)) ≤ℤ sum_below (λ w. pos (sides_at g (first c w)) *ℤ get_or list.base w (pos 0)) (length c) }
     ensures copies { (c : Chain) (list : Prices) (n : ℕ) (g : Sides) → IsChain c → Covers c list → IsFatgraph c n g → (list.scale *ℤ pos (vertices g)) ≤ℤ (pos n *ℤ bound c list) }
-{
-}
+{}
 
 /// A labelled fatgraph is least over its chain where a list that covers the chain is tight for it, so where tables vouch
 /// for such a list.
 pub fn tight_and_covering_are_least()
     ensures covering { (c : Chain) (list : Prices) (n : ℕ) (g : Sides) → IsChain c → pos 0 <ℤ list.scale → Covers c list → IsFatgraph c n g → IsTight c list n g → IsLeast c n g }
     ensures vouched { (c : Chain) (list : Prices) (tables : Tables) (n : ℕ) (g : Sides) → IsChain c → pos 0 <ℤ list.scale → Vouch c list tables → IsFatgraph c n g → IsTight c list n g → IsLeast c n g }
-{
-}
+{}

@@ -1,6 +1,6 @@
 use Rattle.std.proofs.Common.{pos, ◌<ℤ◌, refl, rules}
 use Rattle.sc_theory.specs.Fatgraphs.{IsFatgraph}
-use Rattle.sc_theory.specs.Prices.{Vouch, IsTight}
+use Rattle.sc_theory.specs.Prices.{Vouch}
 use Rattle.sc_theory.specs.Examples.{opposite_words, annulus_prices, annulus_tables, annulus}
 use Rattle.sc_theory.proofs.Decisions.{vouches}
 use Rattle.sc_theory.proofs.Leastness.{least}

@@ -1,6 +1,6 @@
 use Rattle.std.proofs.Common.{pos, ◌<ℤ◌, refl, rules}
 use Rattle.sc_theory.specs.Fatgraphs.{IsFatgraph}
-use Rattle.sc_theory.specs.Prices.{Vouch, IsTight}
+use Rattle.sc_theory.specs.Prices.{Vouch}
 use Rattle.sc_theory.specs.Examples.{commutator, commutator_prices, commutator_tables, torus_by_steps}
 use Rattle.sc_theory.proofs.Decisions.{vouches}
 use Rattle.sc_theory.proofs.Leastness.{least}
