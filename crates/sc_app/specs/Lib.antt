@@ -1,3 +1,4 @@
 pub mod Forms
 pub mod Codes
 pub mod Notes
+pub mod Answers

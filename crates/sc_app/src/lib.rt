@@ -2,8 +2,11 @@
 #![tactic(auto)]
 
 mod command;
+pub mod limits;
 mod note;
+mod program;
 mod status;
 
 pub use command::{Command, command_of};
+pub use program::run;
 pub use status::{Status, What};
