@@ -2,20 +2,24 @@
 use Rattle.std.specs.Prelude.{◌≡◌, ℕ, ◌<◌, ◌≤◌, ◌⊎◌, List, [], length, Option, IfSome}
 use Rattle.sc_outside.specs.Told.{Took, TookPart}
 use Rattle.sc_app.specs.declared.command.Command.{Command}
-use Rattle.sc_app.specs.declared.command.Command.TheVariants.{Surface}
+use Rattle.sc_app.specs.declared.command.Command.TheVariants.{Surface, Scl}
 use Rattle.sc_app.specs.declared.status.Status.{Status}
-use Rattle.sc_app.specs.declared.status.Status.TheVariants.{Done, Usage, Malformed, Large, ReadFault, WriteFault, Memory}
+use Rattle.sc_app.specs.declared.status.Status.TheVariants.{Done, Usage, Malformed, Large, ReadFault, WriteFault, Memory, Rejected, Unbuilt}
 use Rattle.sc_app.specs.declared.status.What.TheVariants.{Bytes}
-use Rattle.sc_app.specs.declared.limits.TheConstants.{MAX_SURFACE_BYTES}
+use Rattle.sc_app.specs.declared.limits.TheConstants.{MAX_SURFACE_BYTES, MAX_CHAIN_BYTES}
 use Rattle.sc_app.specs.Forms.{IsForm}
+use Rattle.sc_app.specs.Surface.{SurfaceResponds}
+use Rattle.sc_app.specs.Scl.{SclResponds}
 
 -- the most bytes that a command reads
 abbrev pub limit_of : Command → ℕ
 limit_of Surface = MAX_SURFACE_BYTES
+limit_of Scl = MAX_CHAIN_BYTES
 
 -- what a command answers to an input that isn't over its limit: the status, and the text for `out`
 abbrev pub Responds : Command → List ℕ → Status → List ℕ → Type 0
-Responds Surface input status text = (status ≡ Done) × (text ≡ [])
+Responds Surface input status text = SurfaceResponds input status text
+Responds Scl input status text = SclResponds input status text
 
 -- what a command answers to an input
 abbrev pub AnswersTo : Command → List ℕ → Status → List ℕ → Type 0
@@ -32,6 +36,8 @@ abbrev pub IsDecided : Status → Type 0
 IsDecided Done = Unit {0}
 IsDecided (Malformed line kind) = Unit {0}
 IsDecided (Large what) = Unit {0}
+IsDecided (Rejected kind place) = Unit {0}
+IsDecided Unbuilt = Unit {0}
 IsDecided Usage = ⊥
 IsDecided ReadFault = ⊥
 IsDecided WriteFault = ⊥
@@ -46,6 +52,8 @@ IsQuiet Usage = Unit {0}
 IsQuiet ReadFault = Unit {0}
 IsQuiet WriteFault = ⊥
 IsQuiet Memory = Unit {0}
+IsQuiet (Rejected kind place) = ⊥
+IsQuiet Unbuilt = Unit {0}
 
 -- where the input is told, this is its answer, and `out` took the text
 abbrev pub Delivers : Command → Option (List ℕ) → Option (List ℕ) → Option (List ℕ) → Status → Type 0
@@ -68,6 +76,8 @@ MayAnswer c input ReadRose WriteRose old new Usage = ⊥
 MayAnswer c input ReadRose WriteRose old new ReadFault = ReadRose × Took old new []
 MayAnswer c input ReadRose WriteRose old new WriteFault = WriteRose × Breaks c input old new
 MayAnswer c input ReadRose WriteRose old new Memory = Took old new []
+MayAnswer c input ReadRose WriteRose old new (Rejected kind place) = Delivers c input old new (Rejected kind place)
+MayAnswer c input ReadRose WriteRose old new Unbuilt = Delivers c input old new Unbuilt × Took old new []
 
 -- the words are no form
 abbrev pub HasNoForm : List (List ℕ) → Type 0

@@ -1,7 +1,7 @@
 -- The exit codes of the program.
 use Rattle.std.specs.Prelude.{ℕ}
 use Rattle.sc_app.specs.declared.status.Status.{Status}
-use Rattle.sc_app.specs.declared.status.Status.TheVariants.{Done, Usage, Malformed, Large, ReadFault, WriteFault, Memory}
+use Rattle.sc_app.specs.declared.status.Status.TheVariants.{Done, Usage, Malformed, Large, ReadFault, WriteFault, Memory, Rejected, Unbuilt}
 
 -- the code that the program ends with
 abbrev pub code_of : Status → ℕ
@@ -12,3 +12,5 @@ code_of (Large what) = 4
 code_of ReadFault = 8
 code_of WriteFault = 9
 code_of Memory = 10
+code_of (Rejected kind place) = 11
+code_of Unbuilt = 12

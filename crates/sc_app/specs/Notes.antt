@@ -4,7 +4,7 @@ use Rattle.sc_whole.specs.Spelling.{natural_spelling}
 use Rattle.sc_chain.specs.declared.fault.Kind.{Kind}
 use Rattle.sc_chain.specs.declared.fault.Kind.TheVariants.{Coefficient, MissingWord, Letter, Extra, NotAscii, Separator, Form, Range, NotReduced, Ended, Rest}
 use Rattle.sc_app.specs.declared.status.Status.{Status}
-use Rattle.sc_app.specs.declared.status.Status.TheVariants.{Done, Usage, Malformed, Large, ReadFault, WriteFault, Memory}
+use Rattle.sc_app.specs.declared.status.Status.TheVariants.{Done, Usage, Malformed, Large, ReadFault, WriteFault, Memory, Rejected, Unbuilt}
 use Rattle.sc_app.specs.declared.status.What.TheVariants.{Bytes, Words, Positions}
 
 -- a text and LF
@@ -13,7 +13,7 @@ line text = text ++ 10 ∷ []
 
 -- the forms of the command line
 abbrev pub usage : List ℕ
-usage = codes "surface"
+usage = codes "surface | scl"
 
 -- the word for a kind of fault
 abbrev pub name_of : Kind → List ℕ
@@ -40,6 +40,8 @@ note_of (Large (Positions count)) = line (codes "scallop: large positions " ++ n
 note_of ReadFault = line (codes "scallop: read fault")
 note_of WriteFault = line (codes "scallop: write fault")
 note_of Memory = line (codes "scallop: memory")
+note_of (Rejected kind place) = line (codes "scallop: rejected")
+note_of Unbuilt = line (codes "scallop: unbuilt")
 
 -- the digits of a number, where there is one
 abbrev pub number_text : Option ℕ → List ℕ

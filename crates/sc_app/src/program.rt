@@ -1,6 +1,6 @@
 //! The top call.
 
-ghost use Rattle.std.specs.Prelude.{◌≡◌, ◌↔◌, ◌⊎◌, ℕ, List, [], IfOk, IfSome};
+ghost use Rattle.std.specs.Prelude.{◌≡◌, ◌↔◌, ◌⊎◌, ℕ, List, [], IfOk, IfSome, ◌≤◌, length};
 ghost use Rattle.sc_outside.specs.Faults.{Rose};
 ghost use Rattle.sc_outside.specs.Told.{Took, TookPart};
 ghost use Rattle.sc_app.specs.Forms.{bytes_of};
@@ -13,32 +13,31 @@ use std::alloc::{AllocError, Global};
 use sc_outside::{ReadAll, Sink, Source, read_all, write_all};
 
 use crate::command::{Command, command_of};
-use crate::limits::MAX_SURFACE_BYTES;
+use crate::answer::Answer;
+use crate::limits::{MAX_CHAIN_BYTES, MAX_SURFACE_BYTES};
 use crate::note::write_note;
+use crate::scl::answer_scl;
 use crate::status::{Status, What};
-
-/// A status, and the text for `out`.
-#[derive(Drop)]
-pub struct Answer {
-    pub status: Status,
-    pub text: Vec<u8>,
-}
+use crate::surface::answer_surface;
 
 fn limit_of_command(command: Command) -> usize
     ensures { result ≡ limit_of command }
 {
     match command {
         Command::Surface => MAX_SURFACE_BYTES,
+        Command::Scl => MAX_CHAIN_BYTES,
     }
 }
 
+/// The answer of a command to its input.
 fn respond(alloc: Global, command: Command, input: &[u8]) -> Result<Answer, AllocError>
+    requires { length input.now ≤ limit_of command }
     ensures { IfOk result (λ answer. Responds command input.now answer.status answer.text.items) }
 {
-    Ok(Answer {
-        status: Status::Done,
-        text: Vec::new(alloc),
-    })
+    match command {
+        Command::Surface => answer_surface(alloc, input),
+        Command::Scl => answer_scl(alloc, input),
+    }
 }
 
 /// Hands over the text of an answer.
