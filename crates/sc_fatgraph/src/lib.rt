@@ -13,3 +13,6 @@ pub use flaws::{FlawKind, SurfaceFault};
 pub use sc_theory::Side;
 pub use side_list::Sides;
 pub use surface::{Counts, Fatgraph};
+
+#[cfg(test)]
+mod tests;
