@@ -1,3 +1,4 @@
 pub mod Faults
 pub mod Tables
 pub mod Inside
+pub mod Balance

@@ -6,6 +6,7 @@ mod fault;
 mod faults;
 mod letter;
 pub mod limits;
+mod totals;
 mod word;
 
 pub use chain::Chain;
