@@ -212,6 +212,13 @@ impl Chain {
         self.words[w].0
     }
 
+    /// The words in their order, each behind its weight.
+    pub fn entries(&self) -> &[(u32, Word)]
+        ensures { result.now ≡ self.now }
+    {
+        self.words.as_slice()
+    }
+
     /// The total of a generator: the sum over the words of weight times the word's letters of the generator, its
     /// inverse counted as -1.
     pub fn total(&self, generator: u8) -> i64
