@@ -4,7 +4,9 @@
 mod cyclic;
 mod element;
 mod free;
+mod lines;
 
 pub use cyclic::cyclic_reduce;
 pub use element::{inverse_of, same_element};
 pub use free::free_reduce;
+pub use lines::{reduce_lines, reduction_keeps_line_totals};
