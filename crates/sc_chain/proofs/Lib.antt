@@ -1,3 +1,4 @@
-pub mod Positions
+pub mod Firsts
 pub mod OneFault
 pub mod Entries
+pub mod Balanced

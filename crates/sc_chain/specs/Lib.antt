@@ -1,3 +1,6 @@
+pub mod Spelling
 pub mod Faults
 pub mod Tables
 pub mod Inside
+pub mod Balance
+pub mod ChainText

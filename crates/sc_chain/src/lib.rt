@@ -6,10 +6,13 @@ mod fault;
 mod faults;
 mod letter;
 pub mod limits;
+mod lines;
+mod totals;
 mod word;
 
 pub use chain::Chain;
 pub use fault::{ChainFault, Kind, TextFault};
-pub use letter::{inverse_of, is_inverse};
+pub use letter::{are_letters, inverse_of, is_inverse, letter_of, letters_of};
+pub use lines::RawLine;
 pub use sc_theory::Letter;
 pub use word::Word;

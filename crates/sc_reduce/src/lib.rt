@@ -1,0 +1,12 @@
+//! The reduction of words, and the chain of the lines of a text.
+#![tactic(auto)]
+
+mod cyclic;
+mod element;
+mod free;
+mod lines;
+
+pub use cyclic::cyclic_reduce;
+pub use element::{inverse_of, same_element};
+pub use free::free_reduce;
+pub use lines::{reduce_lines, reduction_keeps_line_totals};
