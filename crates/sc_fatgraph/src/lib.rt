@@ -3,16 +3,20 @@
 #![tactic(auto)]
 
 mod flaws;
+
 pub mod laws;
 pub mod limits;
 mod orbits;
 mod side_list;
 mod surface;
+mod text;
 
 pub use flaws::{FlawKind, SurfaceFault};
 pub use sc_theory::Side;
 pub use side_list::Sides;
+
 pub use surface::{Counts, Fatgraph};
+pub use text::{SurfaceText, read_surface};
 
 #[cfg(test)]
 mod tests;
