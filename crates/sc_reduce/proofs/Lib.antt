@@ -1,3 +1,4 @@
 pub mod Stack
 pub mod Ends
 pub mod LineLaws
+pub mod Spelled

@@ -5,6 +5,8 @@ mod cyclic;
 mod element;
 mod free;
 mod lines;
+#[cfg(test)]
+mod tests;
 
 pub use cyclic::cyclic_reduce;
 pub use element::{inverse_of, same_element};
