@@ -4,3 +4,4 @@ pub mod Tables
 pub mod Inside
 pub mod Balance
 pub mod ChainText
+pub mod Decision
