@@ -11,4 +11,4 @@ mod tests;
 pub use cyclic::cyclic_reduce;
 pub use element::{inverse_of, same_element};
 pub use free::free_reduce;
-pub use lines::{reduce_lines, reduction_keeps_line_totals};
+pub use lines::{letters_of_a_text, reduce_lines, reduction_keeps_line_totals};

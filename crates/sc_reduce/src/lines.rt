@@ -1,10 +1,10 @@
 //! The chain of the lines of a text.
 
-ghost use Rattle.std.specs.Prelude.{◌≡◌, ℕ, ◌<◌, ◌^◌, List, IfOk, IfErr, OnOk, option_to_list};
+ghost use Rattle.std.specs.Prelude.{◌≡◌, ℕ, ◌<◌, ◌≤◌, ◌^◌, List, length, IfOk, IfErr, OnOk, option_to_list};
 ghost use Rattle.std.specs.List.{All};
 ghost use Rattle.sc_theory.specs.Chains.{chain_total};
 ghost use Rattle.sc_chain.specs.declared.lines.RawLine.{RawLine as Line};
-ghost use Rattle.sc_chain.specs.ChainText.{IsRawLine};
+ghost use Rattle.sc_chain.specs.ChainText.{IsChainText, IsRawLine};
 ghost use Rattle.sc_reduce.specs.Lines.{IsWithin, IsExcess, line_chain, chain_of, letters_of, lines_total};
 
 use crate::cyclic::cyclic_reduce;
@@ -61,4 +61,9 @@ pub fn reduce_lines(alloc: Global, raw: &[RawLine]) -> Result<Chain, ChainFault>
 /// Each total of the chain of lines is the sum, over the lines, of coefficient times the total of the word as written.
 pub fn reduction_keeps_line_totals()
     ensures { (g : ℕ) (lines : List Line) → chain_total g (chain_of lines) ≡ lines_total g lines }
+{}
+
+/// The words of a chain text have no more letters than the text has bytes.
+pub fn letters_of_a_text()
+    ensures { (text : List ℕ) (read : List Line) → IsChainText text read → letters_of read ≤ length text }
 {}
