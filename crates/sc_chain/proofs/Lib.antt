@@ -7,3 +7,4 @@ pub mod SpellingLaws
 pub mod CoefficientLaws
 pub mod DecisionLaws
 pub mod ReadingLaws
+pub mod WordLists

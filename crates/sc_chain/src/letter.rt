@@ -1,7 +1,8 @@
 //! Letters: against each other, and how they are spelled.
 
-ghost use Rattle.std.specs.Prelude.{◌≡◌, ◌↔◌, not, ◌&&◌, ◌==◌, length, is_some, IfOk, IsTrue};
-ghost use Rattle.std.specs.List.{filter_map, list_all};
+ghost use Rattle.std.specs.Prelude.{◌≡◌, ◌<◌, is_some, IfOk, IfSome};
+ghost use Rattle.std.specs.List.{All, filter_map, list_all};
+ghost use Rattle.sc_chain.specs.declared.limits.TheConstants.{GENERATORS};
 ghost use Rattle.sc_theory.specs.Words.{inverse_letter as the_inverse, is_inverse as are_inverse};
 ghost use Rattle.sc_chain.specs.Spelling as spelling;
 
@@ -27,7 +28,8 @@ pub fn inverse_of(x: Letter) -> Letter
 
 /// The letter that a byte spells: `a` to `z` are the generators, and `A` to `Z` their inverses.
 pub fn letter_of(byte: u8) -> Option<Letter>
-    ensures { result ≡ spelling.letter_of byte }
+    ensures letter { result ≡ spelling.letter_of byte }
+    ensures generator { IfSome result (λ x. x.number < GENERATORS) }
 {
     match byte {
         b'a'..=b'z' => Some(Letter {
@@ -51,7 +53,8 @@ pub fn are_letters(bytes: &[u8]) -> bool
 
 /// The letters that bytes spell.
 pub fn letters_of(alloc: Global, bytes: &[u8]) -> Result<Vec<Letter>, AllocError>
-    ensures { IfOk result (λ letters. letters.items ≡ filter_map spelling.letter_of bytes.now) }
+    ensures letters { IfOk result (λ letters. letters.items ≡ filter_map spelling.letter_of bytes.now) }
+    ensures generators { IfOk result (λ letters. All (λ x. x.number < GENERATORS) letters.items) }
 {
     bytes
         .iter()

@@ -19,3 +19,6 @@ pub use letter::{are_letters, inverse_of, is_inverse, letter_of, letters_of};
 pub use lines::{RawLine, read_lines};
 pub use sc_theory::Letter;
 pub use word::Word;
+
+#[cfg(test)]
+mod tests;

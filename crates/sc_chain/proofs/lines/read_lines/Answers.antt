@@ -27,7 +27,7 @@ loop-text-preserved-in-Ok-None c = (
 pub loop-text-preserved : goal.loop-text-preserved
 loop-text-preserved c =
     let fit : to_z w32 (of_z w32 c.in-Ok-Some.coefficient) ≡ c.in-Ok-Some.coefficient = omega (arith, ints) in
-    let word : c.from_letters.result ≡ filter_map letter_of c.in-Ok-Some.letters.now = c.from_letters.ensures ∙ c.in_ok-letters_of-in-Ok-Some.ensures in
+    let word : c.from_letters.result ≡ filter_map letter_of c.in-Ok-Some.letters.now = c.from_letters.ensures ∙ c.in_ok-letters_of-in-Ok-Some.ensures.letters in
     let number : ℕ = c.loop-text.line + 1 in
     let pushed : c.loop-text.read.items ++ record { line = number; coefficient = c.in-Ok-Some.coefficient; word = filter_map letter_of c.in-Ok-Some.letters.now } ∷ [] ≡ c.push.new.self.items =
     ap (λ (z : ℤ). c.loop-text.read.items ++ record { line = number; coefficient = z; word = filter_map letter_of c.in-Ok-Some.letters.now } ∷ []) (sym fit)
