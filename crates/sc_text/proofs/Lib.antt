@@ -1,4 +1,0 @@
-pub mod LineLaws
-pub mod WordLaws
-pub mod SurfaceLaws
-pub mod FaultLaws
