@@ -1,0 +1,5 @@
+pub mod LineLaws
+pub mod WordLaws
+pub mod SurfaceLaws
+pub mod FaultLaws
+pub mod PrintLaws
