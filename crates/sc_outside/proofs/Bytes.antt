@@ -4,7 +4,7 @@ use Rattle.std.proofs.Math.Seq.{take-add}
 use Rattle.std.proofs.lemmas.List.{take_all, take_at, take-append-drop, drop-drop, length-drop, length-take, length-take-le, take-append-le, drop_at, length-append}
 use Rattle.std.proofs.KnownBytes.{Consumes-trans}
 use Rattle.std.specs.Io.KnownBytes.{Consumes, IsAtEnd}
-use Rattle.sc_outside.specs.Told.{Rose, Delivered, Took, TookPart}
+use Rattle.sc_outside.specs.Told.{Delivered, Took, TookPart}
 
 pub Took-nil : (a : Option (List ℕ)) → Took a a []
 Took-nil None = tt
@@ -42,9 +42,10 @@ Delivered-two (Some x) None c xs ys n p q e = absurd p
 Delivered-two (Some x) (Some y) None xs ys n p q e = absurd q
 Delivered-two (Some x) (Some y) (Some z) xs ys n p q e =
     let whole : x ≡ (xs ++ ys) ++ z = p ∙ ap (λ l. xs ++ l) q ∙ sym (append_assoc xs ys z) in
-    let size : length (xs ++ ys) ≡ n = length-append xs ys ∙ e in
-    (omega (arith, ap length whole, length-append (xs ++ ys) z),
-     sym (ap (drop n) whole ∙ drop_at (xs ++ ys) z n size))
+    let size : length (xs ++ ys) ≡ n = length-append xs ys ∙ e in (
+      omega (arith, ap length whole, length-append (xs ++ ys) z),
+      sym (ap (drop n) whole ∙ drop_at (xs ++ ys) z n size),
+    )
 
 -- the first bytes of a buffer whose front was filled
 pub front_length : (k : ℕ) (front : List ℕ) → k ≤ length front → length (take k front) ≡ k

@@ -1,5 +1,10 @@
 -- What the sources and sinks in memory hold.
-use Rattle.std.specs.Prelude.{ℕ, Bool, Option, None, Some, List, if◌then◌else◌}
+use Rattle.std.specs.Prelude.{ℕ, Bool, true, false, Option, None, Some, List}
+
+-- the bytes that were kept, unless more than those were taken
+abbrev pub told_unless : Bool → List ℕ → Option (List ℕ)
+told_unless true kept = None
+told_unless false kept = Some kept
 
 -- the bytes that are left, and at most how many one call gives
 pub record Supply : Type 0 where

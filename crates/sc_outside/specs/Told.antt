@@ -1,9 +1,5 @@
--- What a call does to bytes that may be told, and to a count of faults.
-use Rattle.std.specs.Prelude.{◌≡◌, ℕ, ◌≤◌, ◌<◌, Bool, IsTrue, ◌⊎◌, Option, None, Some, List, ◌++◌, length, take, drop, ⊤}
-
--- the count is greater than before, or stands at its last value
-abbrev pub Rose : ℕ → ℕ → Bool → Type 0
-Rose before now stands = (before < now) ⊎ IsTrue stands
+-- What a call does to bytes that may be told.
+use Rattle.std.specs.Prelude.{◌≡◌, ℕ, ◌≤◌, ◌<◌, Option, None, Some, List, ◌++◌, length, take, drop, ⊤}
 
 -- where the bytes left are told before, exactly the first n of them were delivered, and the others are told
 abbrev pub Delivered : Option (List ℕ) → Option (List ℕ) → ℕ → Type 0

@@ -7,8 +7,12 @@ mod memory;
 mod sinks;
 mod sources;
 mod streams;
+#[cfg(test)]
+mod tests;
 
-pub use calm::CalmSource;
+pub use calm::{CalmSink, CalmSource};
 pub use faults::Failed;
+pub use memory::{MemorySink, MemorySource};
 pub use sinks::{Sink, write_all};
 pub use sources::{ReadAll, Source, read_all};
+pub use streams::{StdSink, StdSource};

@@ -1,6 +1,7 @@
 //! Sinks of bytes, and writing a whole text to one.
 ghost use Rattle.std.specs.Prelude.{◌≡◌, ℕ, ◌<◌, ◌≤◌, Bool, IsTrue, Option, List, [], length, take, IfOk, OnOk, OnErr};
-ghost use Rattle.sc_outside.specs.Told.{Rose, Took, TookPart};
+ghost use Rattle.sc_outside.specs.Faults.{Rose};
+ghost use Rattle.sc_outside.specs.Told.{Took, TookPart};
 
 use crate::faults::Failed;
 

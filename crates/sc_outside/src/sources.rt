@@ -1,11 +1,11 @@
 //! Sources of bytes, and reading one to its end.
 ghost use Rattle.std.specs.Prelude.{◌≡◌, ◌≢◌, ℕ, ◌+◌, ◌^◌, ◌<◌, ◌≤◌, Bool, IsTrue, Option, Some, List, [], length, take, vec_len, IfSome, IfOk, OnOk, OnErr, IsErr};
 ghost use Rattle.std.specs.Io.KnownBytes.{Consumes, IsAtEnd};
-ghost use Rattle.sc_outside.specs.Told.{Rose, Delivered};
-
-use std::alloc::{AllocError, Global};
+ghost use Rattle.sc_outside.specs.Faults.{Rose};
+ghost use Rattle.sc_outside.specs.Told.{Delivered};
 
 use crate::faults::Failed;
+use std::alloc::{AllocError, Global};
 
 /// How many bytes are asked for at most in one call.
 const CHUNK: usize = 65_536;
@@ -70,11 +70,7 @@ impl From<Failed> for ReadAll {
 /// All bytes up to the end of the input, where they are at most `limit`. Makes at most `limit + 1`
 /// calls. Which bytes a source delivers in a call that fails is its own affair, so nothing is said
 /// of the bytes left after `ReadFault`.
-pub fn read_all<S: Source>(
-    alloc: Global,
-    source: &mut S,
-    limit: usize,
-) -> Result<Vec<u8>, ReadAll>
+pub fn read_all<S: Source>(alloc: Global, source: &mut S, limit: usize) -> Result<Vec<u8>, ReadAll>
     requires { limit < 2 ^ 31 }
     ensures whole { IfOk result (λ v. IfSome (S.left source.old) (λ input. v.items ≡ input)) }
     ensures ended { OnOk result (IfSome (S.left source.old) (λ _. S.left source.new ≡ Some [])) }

@@ -37,7 +37,7 @@ is_zero (Some (pos zero)) = true
 is_zero (Some (pos (suc n))) = false
 is_zero (Some (negsuc n)) = false
 
-is_zero_at : (o : Option ℤ) → is_zero o ≡ true → o ≡ Some (pos 0)
+pub is_zero_at : (o : Option ℤ) → is_zero o ≡ true → o ≡ Some (pos 0)
 is_zero_at None h = absurd (false≢true h)
 is_zero_at (Some (pos zero)) h = refl
 is_zero_at (Some (pos (suc n))) h = absurd (false≢true h)
@@ -50,7 +50,7 @@ may_step scale price true (Some h) there = le_z scale (h +ℤ price)
 may_step scale price false (Some h) None = false
 may_step scale price false (Some h) (Some k) = le_z k (h +ℤ price)
 
-le_at : (x y : ℤ) → le_z x y ≡ true → x ≤ℤ y
+pub le_at : (x y : ℤ) → le_z x y ≡ true → x ≤ℤ y
 le_at x y h = record { le = subst T (sym h) tt }
 
 returns_at : (scale price h : ℤ) (here there : Option ℤ) → here ≡ Some h → may_step scale price true here there ≡ true → scale ≤ℤ (h +ℤ price)

@@ -1,18 +1,16 @@
 -- A price list that covers a chain bounds the vertices of each labelled fatgraph over it: the prices of all turns are summed.
 -- Round each vertex the turns are a closed walk, so the sum is at least the scale for each vertex. The prices of the pairs
 -- cancel between a side and its mate, and the base prices count the copies of each word.
-use Rattle.std.proofs.Common.{◌≡◌, ◌≢◌, ℕ, zero, suc, ◌+◌, ◌*◌, ◌/◌, ◌<◌, ◌≤◌, Bool, true, false, eqb, ltb, cond, List, [], ◌∷◌, length, get_or, ℤ, pos, ◌+ℤ◌, ◌-ℤ◌, ◌*ℤ◌, ◌≤ℤ◌, ◌<ℤ◌, neg_ℤ, ◌⊎◌, inl, inr, arith, refl, sym, ap, subst, ◌∙◌}
+use Rattle.std.proofs.Common.{◌≡◌, ◌≢◌, ℕ, suc, ◌+◌, ◌<◌, eqb, ltb, cond, [], ◌∷◌, length, get_or, ℤ, pos, ◌+ℤ◌, ◌*ℤ◌, ◌≤ℤ◌, neg_ℤ, inl, inr, arith, refl, sym, ap, subst, ◌∙◌}
 use Rattle.std.proofs.lemmas.Int.{ints}
 use Rattle.std.proofs.lemmas.Bool.{cases_order, lt-ltb, le-ltb, eq-eqb, ne_eqb, cond-true, cond-false}
-use Rattle.std.specs.Fn.{iterate}
 use Rattle.std.proofs.Math.IntN.{neg_ℤ-neg_ℤ}
 use Rattle.sc_algebra.specs.Sums.{sum_below}
-use Rattle.sc_algebra.specs.Permutations.{sum_along}
 use Rattle.sc_algebra.proofs.Sums.{sum-congr, sum-add, sum-single}
 use Rattle.sc_algebra.proofs.Permutations.{reindex, antisymmetric-cancel}
 use Rattle.sc_algebra.proofs.Cycles.{orbit_bound}
 use Rattle.sc_theory.specs.Words.{Word}
-use Rattle.sc_theory.specs.Chains.{Chain, IsChain, weight, word, positions, first, word_of, succ}
+use Rattle.sc_theory.specs.Chains.{Chain, IsChain, weight, word, first, word_of, succ}
 use Rattle.sc_theory.specs.Fatgraphs.{Sides, label, mate, next, turn, sides_at, vertices, IsFatgraph}
 use Rattle.sc_theory.specs.Orbits.{labels_from}
 use Rattle.sc_theory.specs.Prices.{Prices, pairs, place_of, pair_price, base_price, price, Covers, bound}
@@ -79,7 +77,7 @@ module _ (c : Chain) (list : Prices) (n : ℕ) (g : Sides) (is : IsFatgraph c n 
       sum-congr _ (λ s. y (next g s)) (length g) (λ s inside. ap (λ (i : ℕ). pair_price c list i (label g (turn g s))) (sym (is.follows s inside)))
       ∙ reindex (next g) (length g) y (next_permutes c n g is)
       ∙ antisymmetric-cancel (mate g) (length g) y is.mates is.back
-        (λ s inside. ap (λ (t : ℕ). pair_price c list (label g (mate g s)) (label g t)) (is.back s inside) ∙ pair_price-swap c list (label g s) (label g (mate g s)))
+      (λ s inside. ap (λ (t : ℕ). pair_price c list (label g (mate g s)) (label g t)) (is.back s inside) ∙ pair_price-swap c list (label g s) (label g (mate g s)))
 
   -- the prices of all turns are the base prices of all sides
   prices_of_turns : sum_below (price_at (price c list) g) (length g) ≡ sum_below (λ s. base_price c list (label g s)) (length g)
@@ -94,23 +92,23 @@ module _ (c : Chain) (list : Prices) (n : ℕ) (g : Sides) (is : IsFatgraph c n 
   vertices_paid : Covers c list → (list.scale *ℤ pos (vertices g)) ≤ℤ sum_below (price_at (price c list) g) (length g)
   vertices_paid covers =
       orbit_bound (turn g) (length g) (price_at (price c list) g) list.scale (turn_permutes c n g is)
-        (λ s k inside back. subst (λ (x : ℤ). list.scale ≤ℤ x) (orbit_total (price c list) g s k back) (covers (labels_from g (suc k) s) (orbit_walks c n g is s k inside back)))
+      (λ s k inside back. subst (λ (x : ℤ). list.scale ≤ℤ x) (orbit_total (price c list) g s k back) (covers (labels_from g (suc k) s) (orbit_walks c n g is s k inside back)))
 
   -- with the counts of the words
   pub duality_by_counts : IsChain c → Covers c list → (list.scale *ℤ pos (vertices g)) ≤ℤ sum_below (λ w. pos (sides_at g (first c w)) *ℤ get_or list.base w (pos 0)) (length c)
   duality_by_counts chain covers =
       subst (λ (x : ℤ). (list.scale *ℤ pos (vertices g)) ≤ℤ x)
-        (prices_of_turns
-        ∙ sum_labels c n g is (base_price c list)
-        ∙ sum-congr _ _ (length c) (λ w inside. ap (λ (x : ℤ). pos (sides_at g (first c w)) *ℤ x) (base_of_word c list w (nonempty (word c w) (chain.words w inside)))))
-        (vertices_paid covers)
+      (prices_of_turns
+      ∙ sum_labels c n g is (base_price c list)
+      ∙ sum-congr _ _ (length c) (λ w inside. ap (λ (x : ℤ). pos (sides_at g (first c w)) *ℤ x) (base_of_word c list w (nonempty (word c w) (chain.words w inside)))))
+      (vertices_paid covers)
 
   -- with the copies and the weights
   pub duality : IsChain c → Covers c list → (list.scale *ℤ pos (vertices g)) ≤ℤ (pos n *ℤ bound c list)
   duality chain covers =
       subst (λ (x : ℤ). (list.scale *ℤ pos (vertices g)) ≤ℤ x)
-        (prices_of_turns
-        ∙ sum_labels_weighted c n g is (base_price c list)
-        ∙ ap (λ (x : ℤ). pos n *ℤ x)
-          (sum-congr _ _ (length c) (λ w inside. ap (λ (x : ℤ). pos (weight c w) *ℤ x) (base_of_word c list w (nonempty (word c w) (chain.words w inside))))))
-        (vertices_paid covers)
+      (prices_of_turns
+      ∙ sum_labels_weighted c n g is (base_price c list)
+      ∙ ap (λ (x : ℤ). pos n *ℤ x)
+      (sum-congr _ _ (length c) (λ w inside. ap (λ (x : ℤ). pos (weight c w) *ℤ x) (base_of_word c list w (nonempty (word c w) (chain.words w inside))))))
+      (vertices_paid covers)

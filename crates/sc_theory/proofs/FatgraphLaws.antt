@@ -1,12 +1,11 @@
 -- Labelled fatgraphs: sides are counted position by position, and sums over the sides are sums over the words.
-use Rattle.std.proofs.Common.{◌≡◌, ◌≢◌, ℕ, zero, suc, ◌+◌, ◌*◌, ◌<◌, Bool, true, false, eqb, List, length, ℤ, pos, ◌+ℤ◌, ◌*ℤ◌, neg_ℤ, ◌⊎◌, inl, inr, arith, refl, sym, ap, subst, ◌∙◌}
+use Rattle.std.proofs.Common.{◌≡◌, ℕ, zero, suc, ◌+◌, ◌*◌, ◌<◌, eqb, length, ℤ, pos, ◌*ℤ◌, inl, inr, arith, sym, ap, ◌∙◌}
 use Rattle.std.proofs.lemmas.Bool.{cases_eq, eq-eqb, ne_eqb}
-use Rattle.sc_algebra.specs.Sums.{sum_below, count_below}
+use Rattle.sc_algebra.specs.Sums.{sum_below}
 use Rattle.sc_algebra.specs.Permutations.{IsPermutation}
 use Rattle.sc_algebra.proofs.Ints.{mul-one, mul_assoc, pos-mul, mul-zero, same-pos, cancel}
 use Rattle.sc_algebra.proofs.Sums.{sum-congr, sum-mul_left, sum-const, count-congr, sum_by_value}
 use Rattle.sc_algebra.proofs.Permutations.{compose, involution, count-reindex, antisymmetric-cancel}
-use Rattle.sc_theory.specs.Words.{total}
 use Rattle.sc_theory.specs.Chains.{Chain, IsBalanced, weight, word, positions, weighted_length, first, word_of, letter, succ, prev, chain_total}
 use Rattle.sc_theory.specs.Fatgraphs.{Sides, label, mate, next, turn, quota, sides_at, IsFatgraph}
 use Rattle.sc_theory.proofs.ChainLaws.{at, place_inside, word_inside, word_of_place, letter_place, succ_within, neighbours}
@@ -39,7 +38,7 @@ module _ (c : Chain) (n : ℕ) (g : Sides) (is : IsFatgraph c n g) where
   sides_next i inside =
       sym (count-reindex (next g) (length g) (λ s. eqb (label g s) (succ c i)) next_permutes)
       ∙ count-congr (λ s. eqb (label g (next g s)) (succ c i)) (λ s. eqb (label g s) i) (length g)
-        (λ s h. ap (λ (j : ℕ). eqb j (succ c i)) (is.follows s h) ∙ same_next c (label g s) i (is.labels s h) inside)
+      (λ s h. ap (λ (j : ℕ). eqb j (succ c i)) (is.follows s h) ∙ same_next c (label g s) i (is.labels s h) inside)
 
   -- each place of a word is the label of as many sides as its first one
   pub sides_like_first : (w k : ℕ) → k < length (word c w) → sides_at g (first c w + k) ≡ sides_at g (first c w)
@@ -56,8 +55,8 @@ module _ (c : Chain) (n : ℕ) (g : Sides) (is : IsFatgraph c n g) where
       sym (sum_by_value (label g) f (positions c) (length g) is.labels)
       ∙ sum_positions c (λ i. pos (sides_at g i) *ℤ f i)
       ∙ sum-congr _ _ (length c) (λ w _.
-          sum-congr _ _ (length (word c w)) (λ k inside. ap (λ (m : ℕ). pos m *ℤ f (first c w + k)) (sides_like_first w k inside))
-          ∙ sum-mul_left (pos (sides_at g (first c w))) (λ k. f (first c w + k)) (length (word c w)))
+      sum-congr _ _ (length (word c w)) (λ k inside. ap (λ (m : ℕ). pos m *ℤ f (first c w + k)) (sides_like_first w k inside))
+      ∙ sum-mul_left (pos (sides_at g (first c w))) (λ k. f (first c w + k)) (length (word c w)))
 
   -- the same with the weights and the copies
   pub sum_labels_weighted : (f : ℕ → ℤ) → sum_below (λ s. f (label g s)) (length g) ≡ pos n *ℤ sum_below (λ w. pos (weight c w) *ℤ sum_below (λ k. f (first c w + k)) (length (word c w))) (length c)
@@ -65,31 +64,31 @@ module _ (c : Chain) (n : ℕ) (g : Sides) (is : IsFatgraph c n g) where
       let inner : ℕ → ℤ = λ w. sum_below (λ k. f (first c w + k)) (length (word c w)) in
       sum_labels f
       ∙ sum-congr _ _ (length c) (λ w inside.
-          ap (λ (m : ℕ). pos m *ℤ inner w) (is.counts w inside)
-          ∙ ap (λ (a : ℤ). a *ℤ inner w) (pos-mul n (weight c w))
-          ∙ mul_assoc (pos n) (pos (weight c w)) (inner w))
+      ap (λ (m : ℕ). pos m *ℤ inner w) (is.counts w inside)
+      ∙ ap (λ (a : ℤ). a *ℤ inner w) (pos-mul n (weight c w))
+      ∙ mul_assoc (pos n) (pos (weight c w)) (inner w))
       ∙ sum-mul_left (pos n) (λ w. pos (weight c w) *ℤ inner w) (length c)
 
   pub length_is : length g ≡ n * weighted_length c
   length_is =
       same-pos (length g) (n * weighted_length c)
-        (sym (ones (length g))
-        ∙ sum_labels_weighted (λ _. pos 1)
-        ∙ ap (λ (a : ℤ). pos n *ℤ a) (sum-congr _ _ (length c) (λ w _. ap (λ (a : ℤ). pos (weight c w) *ℤ a) (ones (length (word c w)))) ∙ weighted_length_sum c)
-        ∙ sym (pos-mul n (weighted_length c)))
+      (sym (ones (length g))
+      ∙ sum_labels_weighted (λ _. pos 1)
+      ∙ ap (λ (a : ℤ). pos n *ℤ a) (sum-congr _ _ (length c) (λ w _. ap (λ (a : ℤ). pos (weight c w) *ℤ a) (ones (length (word c w)))) ∙ weighted_length_sum c)
+      ∙ sym (pos-mul n (weighted_length c)))
 
   pub balanced : IsBalanced c
   balanced x =
       let f : ℕ → ℤ = λ i. sign x (letter c i) in
       let by_words : sum_below (λ s. f (label g s)) (length g) ≡ pos n *ℤ chain_total x c =
-          sum_labels_weighted f
-          ∙ ap (λ (a : ℤ). pos n *ℤ a)
-            (sum-congr _ _ (length c) (λ w _. ap (λ (a : ℤ). pos (weight c w) *ℤ a)
-              (sum-congr _ _ (length (word c w)) (λ k inside. ap (sign x) (letter_place c w k inside)) ∙ total_sum x (word c w)))
-            ∙ chain_total_sum x c) in
+      sum_labels_weighted f
+      ∙ ap (λ (a : ℤ). pos n *ℤ a)
+      (sum-congr _ _ (length c) (λ w _. ap (λ (a : ℤ). pos (weight c w) *ℤ a)
+      (sum-congr _ _ (length (word c w)) (λ k inside. ap (sign x) (letter_place c w k inside)) ∙ total_sum x (word c w)))
+      ∙ chain_total_sum x c) in
       let by_mates : sum_below (λ s. f (label g s)) (length g) ≡ pos 0 =
-          antisymmetric-cancel (mate g) (length g) (λ s. f (label g s)) is.mates is.back
-            (λ s inside. ap (sign x) (is.inverse s inside) ∙ sign_inverse x (letter c (label g s))) in
+      antisymmetric-cancel (mate g) (length g) (λ s. f (label g s)) is.mates is.back
+      (λ s inside. ap (sign x) (is.inverse s inside) ∙ sign_inverse x (letter c (label g s))) in
       cancel n (chain_total x c) (pos 0) is.copies (sym by_words ∙ by_mates ∙ sym (mul-zero (pos n)))
 
   pub sides_of_position : (i : ℕ) → i < positions c → sides_at g i ≡ quota c n (word_of c i)

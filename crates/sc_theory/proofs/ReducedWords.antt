@@ -1,10 +1,10 @@
 -- In a word that allows no deletion no letter is followed by its inverse, round the word.
-use Rattle.std.proofs.Common.{◌≡◌, ◌≢◌, ℕ, zero, suc, pred, ◌+◌, ◌<◌, Bool, true, false, not, ◌&&◌, eqb, if◌then◌else◌, List, [], ◌∷◌, length, get_or, Option, Some, None, ◌⊎◌, inl, inr, arith, refl, sym, ap, subst, ◌∙◌}
+use Rattle.std.proofs.Common.{◌≡◌, ℕ, zero, suc, ◌+◌, ◌<◌, Bool, true, false, not, if◌then◌else◌, [], ◌∷◌, length, get_or, Option, Some, None, inl, inr, arith, refl, sym, ap, subst, ◌∙◌}
 use Rattle.std.specs.Option.{option_map, option_or}
-use Rattle.std.proofs.lemmas.Bool.{cases_lt, cases_Bool, eq-eqb, cond-true, false≢true}
+use Rattle.std.proofs.lemmas.Bool.{cases_lt, false≢true}
 use Rattle.sc_theory.specs.declared.Letter.{Letter}
-use Rattle.sc_theory.specs.Words.{Word, inverse_letter, is_inverse, delete_leftmost, delete_ends, delete_cyclically, last_letter, all_but_last, IsReduced}
-use Rattle.sc_theory.specs.Chains.{Chain, IsChain, no_letter, word, positions, first, letter, succ}
+use Rattle.sc_theory.specs.Words.{Word, inverse_letter, is_inverse, delete_leftmost, delete_ends, last_letter, all_but_last}
+use Rattle.sc_theory.specs.Chains.{Chain, IsChain, no_letter, word, first, letter, succ}
 use Rattle.sc_theory.specs.Walks.{IsStep}
 use Rattle.sc_theory.proofs.Decisions.{is_inverse_of}
 use Rattle.sc_theory.proofs.ChainLaws.{at, At, word_inside, letter_place, succ_within, succ_last}
@@ -55,7 +55,7 @@ twice true = refl
 inverse_twice : (x : Letter) → inverse_letter (inverse_letter x) ≡ x
 inverse_twice x = ap (λ (b : Bool). record { number = x.number; inverse = b }) (twice x.inverse)
 
-inverse_before : (x y : Letter) → x ≡ inverse_letter y → is_inverse x y ≡ true
+pub inverse_before : (x y : Letter) → x ≡ inverse_letter y → is_inverse x y ≡ true
 inverse_before x y e = ap (is_inverse x) (sym (inverse_twice y) ∙ sym (ap inverse_letter e)) ∙ is_inverse_of x
 
 inverse_after : (x y : Letter) → x ≡ inverse_letter y → is_inverse y x ≡ true

@@ -1,10 +1,8 @@
 -- Vertices and edges: the test for a vertex speaks of all iterates, the sides are even, and no fatgraph has more vertices than edges.
-use Rattle.std.proofs.Common.{◌≡◌, ◌≢◌, ℕ, zero, suc, ◌+◌, ◌*◌, ◌/◌, ◌<◌, ◌≤◌, length, ℤ, pos, ◌+ℤ◌, ◌-ℤ◌, ◌*ℤ◌, ◌≤ℤ◌, IsTrue, ◌↔◌, arith, refl, sym, ap, subst, ◌∙◌}
+use Rattle.std.proofs.Common.{◌≡◌, ℕ, zero, suc, ◌*◌, ◌/◌, ◌<◌, ◌≤◌, length, ℤ, pos, ◌-ℤ◌, ◌*ℤ◌, ◌≤ℤ◌, IsTrue, ◌↔◌, arith, subst}
 use Rattle.std.proofs.lemmas.Int.{ints}
 use Rattle.std.specs.Fn.{iterate}
-use Rattle.sc_algebra.specs.Sums.{sum_below}
 use Rattle.sc_algebra.specs.Permutations.{is_least_for, sum_along}
-use Rattle.sc_algebra.proofs.Sums.{sum-const}
 use Rattle.sc_algebra.proofs.Permutations.{parity}
 use Rattle.sc_algebra.proofs.Cycles.{least_means_least, least_from_all, orbit_bound}
 use Rattle.sc_theory.specs.Chains.{Chain, IsChain}
@@ -41,6 +39,6 @@ module _ (c : Chain) (n : ℕ) (g : Sides) (is : IsFatgraph c n g) where
   pub cost_not_negative : IsChain c → pos 0 ≤ℤ cost g
   cost_not_negative chain =
       not_negative (vertices g) (edges g) (length g)
-        (subst (λ (x : ℤ). (pos 2 *ℤ pos (vertices g)) ≤ℤ x) (ones (length g))
-          (orbit_bound (turn g) (length g) (λ _. pos 1) (pos 2) (turn_permutes c n g is) (two_along chain)))
-        even_sides
+      (subst (λ (x : ℤ). (pos 2 *ℤ pos (vertices g)) ≤ℤ x) (ones (length g))
+      (orbit_bound (turn g) (length g) (λ _. pos 1) (pos 2) (turn_permutes c n g is) (two_along chain)))
+      even_sides

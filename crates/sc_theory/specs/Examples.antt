@@ -87,9 +87,14 @@ zero_tables =
     let zeros : List (Option ℤ) = Some (pos 0) ∷ Some (pos 0) ∷ Some (pos 0) ∷ Some (pos 0) ∷ [] in
     zeros ∷ zeros ∷ zeros ∷ zeros ∷ []
 
--- the chain of the four words a, A, b and B, and sides that run twice along the first two and not along the others
+-- the chain of the four words a, A, b and B
 abbrev pub four_words : Chain
 four_words = (1, a ∷ []) ∷ (1, a' ∷ []) ∷ (1, b ∷ []) ∷ (1, b' ∷ []) ∷ []
 
+-- the same words with weights by which the sides are a fatgraph, and with the same weighted length
+abbrev pub uneven_words : Chain
+uneven_words = (2, a ∷ []) ∷ (2, a' ∷ []) ∷ (0, b ∷ []) ∷ (0, b' ∷ []) ∷ []
+
+-- sides that run twice along the first two words and not along the others
 abbrev pub two_annuli : Sides
 two_annuli = side 0 1 0 ∷ side 1 0 1 ∷ side 0 3 2 ∷ side 1 2 3 ∷ []

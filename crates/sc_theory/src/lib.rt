@@ -3,6 +3,7 @@
 #![tactic(auto)]
 
 pub mod chains;
+pub mod columns;
 pub mod examples;
 pub mod fatgraphs;
 pub mod prices;

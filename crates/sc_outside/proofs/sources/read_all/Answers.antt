@@ -31,7 +31,8 @@ returns-in_err-extend_from_slice-clause-memory g c = λ _.
     let fits : c.in_ok-count.count ≤ length c.read.new.room = omega (arith, c.in_ok-count.ensures.fits, c.read.auto.room) in
     let size : length (take c.in_ok-count.count c.read.new.room) ≡ c.in_ok-count.count = front_length _ _ fits in
     let kept : length c.loop-turn.bytes.items ≡ vec_len c.loop-turn.bytes = sym c.loop-turn.bytes.ok.0 in
-    let all : length c.loop-turn.bytes.items + length (take c.in_ok-count.count c.read.new.room) ≡ vec_len c.loop-turn.bytes + c.in_ok-count.count = omega (arith, size, kept) in
-    (vec_len c.loop-turn.bytes + c.in_ok-count.count,
-     omega arith,
-     Delivered-two _ _ _ _ _ _ c.loop-turn.invariant.delivered c.in_ok-count.ensures.next_bytes all)
+    let all : length c.loop-turn.bytes.items + length (take c.in_ok-count.count c.read.new.room) ≡ vec_len c.loop-turn.bytes + c.in_ok-count.count = omega (arith, size, kept) in (
+      vec_len c.loop-turn.bytes + c.in_ok-count.count,
+      omega arith,
+      Delivered-two _ _ _ _ _ _ c.loop-turn.invariant.delivered c.in_ok-count.ensures.next_bytes all,
+    )
