@@ -1,2 +1,3 @@
-pub mod OneWord
 pub mod Taken
+pub mod Serving
+pub mod Reports

@@ -15,16 +15,16 @@ take_past xs ys k =
 -- a part of the second text
 pub part_after : (a b c : Option (List ℕ)) (xs ys : List ℕ) → Took a b xs → TookPart b c ys → TookPart a c (xs ++ ys)
 part_after a b c xs ys p q = (
-      length xs + q.0,
-      omega (arith, length-append xs ys, q.1),
-      subst (Took a c) (sym (take_past xs ys q.0)) (Took-trans a b c xs (take q.0 ys) p q.2),
-    )
+  length xs + q.0,
+  omega (arith, length-append xs ys, q.1),
+  subst (Took a c) (sym (take_past xs ys q.0)) (Took-trans a b c xs (take q.0 ys) p q.2),
+)
 
 -- a part of the first text
 pub part_before : (a b : Option (List ℕ)) (xs ys : List ℕ) → TookPart a b xs → TookPart a b (xs ++ ys)
 part_before a b xs ys p = (
-      p.0,
-      omega (arith, length-append xs ys, p.1),
-      let within : p.0 ≤ length xs = omega (arith, p.1) in
+  p.0,
+  omega (arith, length-append xs ys, p.1),
+  let within : p.0 ≤ length xs = omega (arith, p.1) in
       subst (Took a b) (sym (take-append-le p.0 xs ys within)) p.2,
-    )
+)

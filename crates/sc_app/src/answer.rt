@@ -2,9 +2,8 @@
 
 ghost use Rattle.std.specs.Prelude.{◌≡◌, []};
 
-use std::alloc::Global;
-
 use crate::status::Status;
+use std::alloc::Global;
 
 /// A status, and the text for `out`.
 #[derive(Drop)]

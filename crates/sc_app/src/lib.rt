@@ -13,3 +13,6 @@ mod surface;
 pub use command::{Command, command_of};
 pub use program::run;
 pub use status::{Status, What};
+
+#[cfg(test)]
+mod tests;

@@ -5,11 +5,10 @@ ghost use Rattle.sc_outside.specs.Faults.{Rose};
 ghost use Rattle.sc_outside.specs.Told.{Took, TookPart};
 ghost use Rattle.sc_app.specs.Notes.{name_of, note_of, number_text, text_of};
 
+use crate::status::{Status, What};
 use itoa::Buffer;
 use sc_chain::Kind;
 use sc_outside::{Failed, Sink, write_all};
-
-use crate::status::{Status, What};
 
 /// A line in its parts, so that it can be written where there is no memory.
 #[derive(Clone, Copy)]

@@ -8,17 +8,15 @@ ghost use Rattle.sc_app.specs.Notes.{note_of};
 ghost use Rattle.sc_app.specs.Answers.{limit_of, Responds, Answers, HasNoForm, IsDecided, IsQuiet, MayAnswer, IsAsked, IsUnasked, TookUpTo};
 ghost use Rattle.sc_app.specs.declared.status.Status.{Status as AnyStatus};
 
-use std::alloc::{AllocError, Global};
-
-use sc_outside::{ReadAll, Sink, Source, read_all, write_all};
-
-use crate::command::{Command, command_of};
 use crate::answer::Answer;
+use crate::command::{Command, command_of};
 use crate::limits::{MAX_CHAIN_BYTES, MAX_SURFACE_BYTES};
 use crate::note::write_note;
 use crate::scl::answer_scl;
 use crate::status::{Status, What};
 use crate::surface::answer_surface;
+use sc_outside::{ReadAll, Sink, Source, read_all, write_all};
+use std::alloc::{AllocError, Global};
 
 fn limit_of_command(command: Command) -> usize
     ensures { result ≡ limit_of command }
@@ -44,7 +42,7 @@ fn respond(alloc: Global, command: Command, input: &[u8]) -> Result<Answer, Allo
 fn deliver<O: Sink>(answer: &Answer, out: &mut O) -> Status
     ensures { ((result ≡ answer.now.status) × Took (O.taken out.old) (O.taken out.new) answer.now.text.items)
         ⊎ ((result ≡ Status.WriteFault) × Rose (O.faults out.old) (O.faults out.new) (O.stands out.new)
-            × TookPart (O.taken out.old) (O.taken out.new) answer.now.text.items) }
+        × TookPart (O.taken out.old) (O.taken out.new) answer.now.text.items) }
 {
     match write_all(out, answer.text.as_slice()) {
         Ok(()) => answer.status,
@@ -77,14 +75,12 @@ fn serve_words<S: Source, O: Sink>(
     source: &mut S,
     out: &mut O,
 ) -> Status
-    ensures {
-        IsUnasked (bytes_of words.now.items) (S.left source.old) (S.left source.new) (S.faults source.old) (S.faults source.new)
-            (O.taken out.old) (O.taken out.new) result
+    ensures { IsUnasked (bytes_of words.now.items) (S.left source.old) (S.left source.new) (S.faults source.old) (S.faults source.new)
+        (O.taken out.old) (O.taken out.new) result
         ⊎ IsAsked (bytes_of words.now.items) (S.left source.old)
-            (Rose (S.faults source.old) (S.faults source.new) (S.stands source.new))
-            (Rose (O.faults out.old) (O.faults out.new) (O.stands out.new))
-            (O.taken out.old) (O.taken out.new) result
-    }
+        (Rose (S.faults source.old) (S.faults source.new) (S.stands source.new))
+        (Rose (O.faults out.old) (O.faults out.new) (O.stands out.new))
+        (O.taken out.old) (O.taken out.new) result }
 {
     match command_of(words) {
         None => Status::Usage,

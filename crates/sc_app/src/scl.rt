@@ -2,17 +2,15 @@
 
 ghost use Rattle.std.specs.Prelude.{◌≡◌, ◌≤◌, ◌+◌, ◌<◌, ◌++◌, ◌∷◌, length, codes, IfOk, OnOk};
 ghost use Rattle.sc_whole.specs.Spelling.{spelling};
-ghost use Rattle.sc_app.specs.Scl.{SclResponds, infinite};
-
-use std::alloc::{AllocError, Global};
-
-use sc_chain::{Chain, ChainFault, TextFault, read_lines};
-use sc_reduce::reduce_lines;
-use sc_whole::print_decimal;
+ghost use Rattle.sc_app.specs.Scl.{SclResponds, IsValueOf, infinite};
 
 use crate::answer::Answer;
 use crate::limits::MAX_CHAIN_BYTES;
 use crate::status::{Status, What};
+use sc_chain::{Chain, ChainFault, TextFault, read_lines};
+use sc_reduce::reduce_lines;
+use sc_whole::print_decimal;
+use std::alloc::{AllocError, Global};
 
 /// The line for a generator and its total.
 fn infinite_line(alloc: Global, generator: u8, total: i64) -> Result<Vec<u8>, AllocError>
@@ -29,6 +27,7 @@ fn infinite_line(alloc: Global, generator: u8, total: i64) -> Result<Vec<u8>, Al
 
 /// The answer for a chain that is within the limits.
 fn value_of(alloc: Global, chain: &Chain) -> Result<Answer, AllocError>
+    ensures { IfOk result (λ answer. IsValueOf chain.now answer.status answer.text.items) }
 {
     match chain.first_unbalanced() {
         None => Ok(Answer::without_text(alloc, Status::Unbuilt)),

@@ -8,15 +8,13 @@ ghost use Rattle.sc_fraction.specs.Frac.{IsQuotient, frac_text};
 ghost use Rattle.sc_app.specs.Notes.{line};
 ghost use Rattle.sc_app.specs.Surface.{SurfaceResponds, fraction_label, flaw_label, report, rejection};
 
-use std::alloc::{AllocError, Global};
-
+use crate::answer::Answer;
+use crate::status::Status;
 use sc_chain::TextFault;
 use sc_fatgraph::{Fatgraph, FlawKind, SurfaceFault, SurfaceText, fraction, read_surface};
 use sc_fraction::Frac;
 use sc_whole::print_decimal;
-
-use crate::answer::Answer;
-use crate::status::Status;
+use std::alloc::{AllocError, Global};
 
 fn append_number_line(out: &mut Vec<u8>, label: &[u8], number: i128) -> Result<(), AllocError>
     ensures { OnOk result (out.new.items ≡ out.old.items ++ line (label.now ++ spelling number)) }

@@ -31,7 +31,7 @@ returns-then-not-is_reduced-clause-err c z narrowed =
     let len : length (letters_of bs) ≡ length bs = length-letters_of bs spells in
     let weight = c.in_ok-weight.ensures.ok in
     let n = c.in_ok-weight.weight in
-    let word : c.from_letters-word.result ≡ letters_of bs = c.from_letters-word.ensures ∙ c.in_ok-letters_of.ensures in
+    let word : c.from_letters-word.result ≡ letters_of bs = c.from_letters-word.ensures ∙ c.in_ok-letters_of.ensures.letters in
     let unreduced : IsReduced (letters_of bs) → ⊥ = λ reduced. false≢true (c.if-not-is_reduced.ensures.1 (subst IsReduced (sym word) reduced)) in
     let at_weight = word_fault_unreduced c.args.room n (letters_of bs) weight.1 weight.2 (omega arith) unreduced in
     weighted_is c.args.room z bs spells ∙ ap (λ (y : ℤ). word_fault c.args.room y (letters_of bs)) (narrowed_is z (pos n) c.args.weight narrowed weight.0) ∙ at_weight
@@ -43,7 +43,7 @@ returns-clause-ok c =
     let len : length (letters_of bs) ≡ length bs = length-letters_of bs spells in
     let weight = c.in_ok-weight.ensures.ok in
     let n = c.in_ok-weight.weight in
-    let made : c.from_letters-word.result ≡ letters_of bs = c.from_letters-word.ensures ∙ c.in_ok-letters_of.ensures in
+    let made : c.from_letters-word.result ≡ letters_of bs = c.from_letters-word.ensures ∙ c.in_ok-letters_of.ensures.letters in
     let reduced : IsReduced (letters_of bs) = subst IsReduced made (c.if-not-is_reduced.ensures.0 refl) in
     let spelling = spelled_back bs (letters_of bs) (word_of_letters bs spells) in
     let in_range : IsWordInRange (n, letters_of bs) = record {
