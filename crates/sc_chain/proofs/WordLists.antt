@@ -16,7 +16,7 @@ positions_push c x = sum_by_push (λ (w : ℕ × Word). length w.1) c x
 
 pub generators_push : (c : Chain) (x : ℕ × Word) → AreGenerators c → All (λ l. l.number < GENERATORS) x.1 → AreGenerators (c ++ x ∷ [])
 generators_push c x g h w k lw lk = elim (cases_lt w (length c)) [
-    inl before ↦
+  | inl before ↦
       (let same : word (c ++ x ∷ []) w ≡ word c w = ap (λ (p : ℕ × Word). p.1) (get_or_append_left c (x ∷ []) no_word w before) in
       let inside : k < length (word c w) = rw same at lk in
       rw same (g w k before inside))
@@ -25,7 +25,7 @@ generators_push c x g h w k lw lk = elim (cases_lt w (length c)) [
       let same : word (c ++ x ∷ []) w ≡ x.1 = ap (λ (n : ℕ). word (c ++ x ∷ []) n) at ∙ ap (λ (p : ℕ × Word). p.1) (get_or-append_seam c x [] no_word) in
       let inside : k < length x.1 = rw same at lk in
       rw same (h k no_letter inside))
-  ]
+]
 
 -- at most 100 words of at most 100 letters
 pub record AreFew (c : Chain) : Type 0 where

@@ -49,9 +49,11 @@ AllLack-sides [] = tt
 AllLack-sides (s ∷ g) = (lacks-side_line s, AllLack-sides g)
 
 pub AllLack-surface_lines : (c : Chain) (n : ℕ) (g : Sides) → AllLack 10 (surface_lines c n g)
-AllLack-surface_lines c n g =
-    (refl, AllLack-append 10 (words_lines c) _ (lacks-count_line (codes "words") (length c) refl, AllLack-words c)
-      (lacks-count_line (codes "copies") n refl, AllLack-append 10 (sides_lines g) _ (lacks-count_line (codes "sides") (length g) refl, AllLack-sides g) (refl, tt)))
+AllLack-surface_lines c n g = (
+  refl,
+  AllLack-append 10 (words_lines c) _ (lacks-count_line (codes "words") (length c) refl, AllLack-words c)
+      (lacks-count_line (codes "copies") n refl, AllLack-append 10 (sides_lines g) _ (lacks-count_line (codes "sides") (length g) refl, AllLack-sides g) (refl, tt)),
+)
 
 pub parts-surface_text : (c : Chain) (n : ℕ) (g : Sides) → parts (surface_text c n g) ≡ surface_lines c n g ++ [] ∷ []
 parts-surface_text c n g = parts-text_of (surface_lines c n g) (AllLack-surface_lines c n g)
@@ -90,7 +92,7 @@ read_sides text k c n m done (s ∷ todo) after h some words sides all =
     let len = length_push done s in
     let pushed : sides_so_far n m (done ++ s ∷ []) ≡ sides_so_far n m done ++ side_line s ∷ [] = ap (λ (ls : List Line). count_line (codes "copies") n ∷ count_line (codes "sides") m ∷ ls) (map_push side_line done s) in
     let new : heading ∷ (words_so_far k c ++ sides_so_far n m (done ++ s ∷ [])) ≡ (heading ∷ (words_so_far k c ++ sides_so_far n m done)) ++ side_line s ∷ [] =
-        ap (λ (ls : List Line). heading ∷ (words_so_far k c ++ ls)) pushed ∙ ap (λ (ls : List Line). heading ∷ ls) (sym (append_assoc (words_so_far k c) (sides_so_far n m done) (side_line s ∷ []))) in
+    ap (λ (ls : List Line). heading ∷ (words_so_far k c ++ ls)) pushed ∙ ap (λ (ls : List Line). heading ∷ ls) (sym (append_assoc (words_so_far k c) (sides_so_far n m done) (side_line s ∷ []))) in
     let next = read_row text _ _ (side_line s) (map side_line todo ++ after) side_row h (nonempty-append (map side_line todo) after some) new (side_due k c n m done words (omega arith)) (good_side s sides.0) in
     let rest = read_sides text k c n m (done ++ s ∷ []) todo after next some words sides.1 (omega arith) in
     subst (λ (g : Sides). HasRead surface_table text (heading ∷ (words_so_far k c ++ sides_so_far n m g)) after) (append_assoc done (s ∷ []) todo) rest
@@ -110,13 +112,13 @@ read_counts : (text : List ℕ) (k : ℕ) (c : Chain) (n m : ℕ) (after : List 
 read_counts text k c n m after h some words low high few =
     let first = read_row text _ (heading ∷ (words_so_far k c ++ count_line (codes "copies") n ∷ [])) (count_line (codes "copies") n) (count_line (codes "sides") m ∷ after) _ h (λ e. absurd cc) refl (copies_due k c words) (good_count (codes "copies") 1 MAX_COPIES n refl low high) in
     let new : heading ∷ (words_so_far k c ++ sides_so_far n m []) ≡ (heading ∷ (words_so_far k c ++ count_line (codes "copies") n ∷ [])) ++ count_line (codes "sides") m ∷ [] =
-        ap (λ (ls : List Line). heading ∷ ls) (sym (append_assoc (words_so_far k c) (count_line (codes "copies") n ∷ []) (count_line (codes "sides") m ∷ []))) in
+    ap (λ (ls : List Line). heading ∷ ls) (sym (append_assoc (words_so_far k c) (count_line (codes "copies") n ∷ []) (count_line (codes "sides") m ∷ []))) in
     read_row text _ _ (count_line (codes "sides") m) after _ first some new (side_count_due k c n words) (good_count (codes "sides") 0 MAX_SIDES m refl (omega arith) few)
 
 read_end : (text : List ℕ) (k : ℕ) (c : Chain) (n m : ℕ) (g : Sides) → HasRead surface_table text (heading ∷ (words_so_far k c ++ sides_so_far n m g)) (ending ∷ [] ∷ []) → length c ≡ k → length g ≡ m → IsFaultless surface_table text
 read_end text k c n m g h words sides =
     let new : heading ∷ (words_so_far k c ++ (sides_so_far n m g ++ ending ∷ [])) ≡ (heading ∷ (words_so_far k c ++ sides_so_far n m g)) ++ ending ∷ [] =
-        ap (λ (ls : List Line). heading ∷ ls) (sym (append_assoc (words_so_far k c) (sides_so_far n m g) (ending ∷ []))) in
+    ap (λ (ls : List Line). heading ∷ ls) (sym (append_assoc (words_so_far k c) (sides_so_far n m g) (ending ∷ []))) in
     let last = read_row text _ _ ending ([] ∷ []) _ h (λ e. absurd cc) new (end_due k c n m g words sides) (good_literal ending) in
     read_all surface_table text _ [] last (rest_when_done surface_table _ [] (nothing_due k c n m g words sides))
 
@@ -126,7 +128,7 @@ faultless_text c n g h =
     let k = length c in
     let m = length g in
     let regrouped : surface_lines c n g ++ [] ∷ [] ≡ heading ∷ count_line (codes "words") k ∷ (map word_line c ++ (count_line (codes "copies") n ∷ count_line (codes "sides") m ∷ (map side_line g ++ (ending ∷ [] ∷ [])))) =
-        simp append_assoc in
+    simp append_assoc in
     let start = subst (HasRead surface_table text []) (parts-surface_text c n g ∙ regrouped) (read_nothing surface_table text) in
     let headed = read_heading text k _ start (nonempty-append (map word_line c) _ (λ e. absurd cc)) h.chain.count in
     let words = read_words text k [] c _ headed (λ e. absurd cc) h.chain.words (omega arith) (omega (arith, h.chain.letters)) in

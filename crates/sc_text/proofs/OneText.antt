@@ -31,9 +31,9 @@ same_field i k l e = ap (λ (line : Line). get_or (fields line) i []) e
 word_line-injective : (v w : ℕ × Word) → IsWordInRange v → IsWordInRange w → word_line v ≡ word_line w → v ≡ w
 word_line-injective v w h k e =
     let weight : spelling (pos v.0) ≡ spelling (pos w.0) =
-        sym (ap (λ (fs : List Field). get_or fs 1 []) (fields-word_line v)) ∙ same_field 1 (word_line v) (word_line w) e ∙ ap (λ (fs : List Field). get_or fs 1 []) (fields-word_line w) in
+    sym (ap (λ (fs : List Field). get_or fs 1 []) (fields-word_line v)) ∙ same_field 1 (word_line v) (word_line w) e ∙ ap (λ (fs : List Field). get_or fs 1 []) (fields-word_line w) in
     let letters : spelled v.1 ≡ spelled w.1 =
-        sym (ap (λ (fs : List Field). get_or fs 2 []) (fields-word_line v)) ∙ same_field 2 (word_line v) (word_line w) e ∙ ap (λ (fs : List Field). get_or fs 2 []) (fields-word_line w) in
+    sym (ap (λ (fs : List Field). get_or fs 2 []) (fields-word_line v)) ∙ same_field 2 (word_line v) (word_line w) e ∙ ap (λ (fs : List Field). get_or fs 2 []) (fields-word_line w) in
     let word : v.1 ≡ w.1 = same_Some _ _ (sym (word_again v.1 h.letters) ∙ ap word_of letters ∙ word_again w.1 k.letters) in
     let number : v.0 ≡ w.0 = same_pos v.0 w.0 weight in
     λ i. (number i, word i)
@@ -41,7 +41,7 @@ word_line-injective v w h k e =
 side_line-injective : (s t : Side) → side_line s ≡ side_line t → s ≡ t
 side_line-injective s t e =
     let at : (i : ℕ) → get_or (codes "side" ∷ spelling (pos s.label) ∷ spelling (pos s.mate) ∷ spelling (pos s.next) ∷ []) i [] ≡ get_or (codes "side" ∷ spelling (pos t.label) ∷ spelling (pos t.mate) ∷ spelling (pos t.next) ∷ []) i [] =
-        λ i. sym (ap (λ (fs : List Field). get_or fs i []) (fields-side_line s)) ∙ same_field i (side_line s) (side_line t) e ∙ ap (λ (fs : List Field). get_or fs i []) (fields-side_line t) in
+    λ i. sym (ap (λ (fs : List Field). get_or fs i []) (fields-side_line s)) ∙ same_field i (side_line s) (side_line t) e ∙ ap (λ (fs : List Field). get_or fs i []) (fields-side_line t) in
     let label = same_pos s.label t.label (at 1) in
     let mate = same_pos s.mate t.mate (at 2) in
     let next = same_pos s.next t.next (at 3) in

@@ -81,10 +81,10 @@ numbers_from (r ∷ rs) (f ∷ fs) h k =
     elim (number_of f) as (λ (o : Option ℤ). number_of f ≡ o → AreNumbers (r ∷ rs) (f ∷ fs)) [
       | None ↦ λ e. absurd (let none : false ≡ true = rw e at first in false≢true none)
       | Some z ↦ λ e. record {
-          numbers = z ∷ rest.numbers;
-          fields = λ i. number_of_is f z e i ∷ rest.fields i;
-          in_range = ((let at : r z ≡ true = rw e at range in at), rest.in_range);
-        }
+        numbers = z ∷ rest.numbers;
+        fields = λ i. number_of_is f z e i ∷ rest.fields i;
+        in_range = ((let at : r z ≡ true = rw e at range in at), rest.in_range);
+      }
     ] refl
 
 numbers_inverse : (rs : List NumberRange) (fs : List Field) → numbers_fault rs fs ≡ None → AreNumbers rs fs
@@ -175,11 +175,11 @@ word_good room z x w line letters e read h =
           let spells = spelled_back letters (x ∷ w) read in
           elim (cases_Bool (is_reduced (x ∷ w))) [
             | inl reduced ↦ record {
-                word = (weight.natural, x ∷ w);
-                is = line_from_fields line _ e ∙ (λ i. spaced (codes "word" ∷ spelling (weight.is i) ∷ sym spells.bytes i ∷ []));
-                in_range = record { low = weight.low_end; high = weight.high_end; letters = spells.letters; some = (λ none. absurd cc); reduced = reduced_from (x ∷ w) reduced };
-                fits = leb-true (length (x ∷ w)) room both.1;
-              }
+              word = (weight.natural, x ∷ w);
+              is = line_from_fields line _ e ∙ (λ i. spaced (codes "word" ∷ spelling (weight.is i) ∷ sym spells.bytes i ∷ []));
+              in_range = record { low = weight.low_end; high = weight.high_end; letters = spells.letters; some = (λ none. absurd cc); reduced = reduced_from (x ∷ w) reduced };
+              fits = leb-true (length (x ∷ w)) room both.1;
+            }
             | inr unreduced ↦ absurd (none-some NotReduced (sym (let fault : Some NotReduced ≡ None = rw (in_range, unreduced) at h in fault)))
           ]
       | inr outside ↦ absurd (none-some Range (sym (let fault : Some Range ≡ None = rw outside at h in fault)))
@@ -281,7 +281,7 @@ step stages.Sides k c n m g line h good =
           let is = side_inverse line (good_row (heading ∷ (words_so_far k c ++ sides_so_far n m g)) line _ (side_due k c n m g h.stage.0 more) good) in
           let len = length_push g is.side in
           let pushed : sides_so_far n m (g ++ is.side ∷ []) ≡ sides_so_far n m g ++ line ∷ [] =
-              ap (λ (ls : List Line). count_line (codes "copies") n ∷ count_line (codes "sides") m ∷ ls) (map_push side_line g is.side ∙ ap (λ (l : Line). map side_line g ++ l ∷ []) (sym is.is)) in
+          ap (λ (ls : List Line). count_line (codes "copies") n ∷ count_line (codes "sides") m ∷ ls) (map_push side_line g is.side ∙ ap (λ (l : Line). map side_line g ++ l ∷ []) (sym is.is)) in
           record {
             now = record { stage = stages.Sides; word_count = k; words = c; copies = n; side_count = m; sides = g ++ is.side ∷ [] };
             keeps = record { words_count = h.words_count; few_words = h.few_words; words = h.words; few_letters = h.few_letters; sides_count = omega arith; few_sides = h.few_sides; sides = All_push IsSideInRange g is.side h.sides is.in_range; stage = h.stage };
@@ -337,7 +337,7 @@ at_end text stages.Ended k c n m g rest h read good =
     let few_sides = h.few_sides in
     let empty = no_rest rest (sym (rest_when_done surface_table (lines_at stages.Ended k c n m g) rest (nothing_due k c n m g words sides)) ∙ good) in
     let whole : parts text ≡ surface_lines c n g ++ [] ∷ [] =
-        read.cut ∙ ap (λ (r : Line). lines_at stages.Ended k c n m g ++ r ∷ []) empty ∙ ap (λ (ls : List Line). ls ++ [] ∷ []) (whole_lines k c n m g words sides) in
+    read.cut ∙ ap (λ (r : Line). lines_at stages.Ended k c n m g ++ r ∷ []) empty ∙ ap (λ (ls : List Line). ls ++ [] ∷ []) (whole_lines k c n m g words sides) in
     record {
       words = c;
       copies = n;

@@ -13,7 +13,9 @@ mod words;
 
 pub use fault::LineFault;
 pub use fields::{Fields, count_line, cut, in_range, literal_line};
-pub use laws::{faultless_is_surface_text, surface_text_is_faultless, surface_text_is_of_one_surface};
+pub use laws::{
+    faultless_is_surface_text, surface_text_is_faultless, surface_text_is_of_one_surface,
+};
 pub use printing::{
     Field, print_count_line, print_line, print_side_line, print_sides, print_surface_text,
     print_word_line, print_words,
