@@ -8,20 +8,21 @@ use Rattle.sc_theory.specs.Chains.{Chain, no_letter, word, positions, first, wor
 use Rattle.sc_chain.specs.declared.chain.Place.{Place}
 use Rattle.sc_chain.specs.Faults.{AreGoodBelow}
 use Rattle.sc_chain.specs.Tables.{no_place, place_between, AppendsBelow, AreTablesBelow, AreTables}
-use Rattle.sc_chain.proofs.Positions.{IsPlace, is_place, letter-place, first-suc, first-length, first-mono, first-lt, succ-lt, prev-lt}
+use Rattle.sc_theory.proofs.ChainLaws.{Place as Placed, place, letter_place, first-suc, first_all, neighbours}
+use Rattle.sc_chain.proofs.Firsts.{first-mono, first-lt}
 
 -- the entry of a position, from the entry of the place of its word
 pub entry_at : (c : Chain) (places : List Place) (firsts : List ℕ) → AreTablesBelow c (length c) places firsts → (i : ℕ) → i < positions c →
     get_or places i no_place ≡ place_between (first c (word_of c i)) (first c (suc (word_of c i))) (word_of c i) (letter c i) i
 entry_at c places firsts t i h =
-    let p : IsPlace c i = is_place c i h in
+    let p : Placed c i = place c i h in
     let v : ℕ = word_of c i in
     let k : ℕ = i - first c v in
-    let inside : k < length (word c v) = omega (arith, p.from, p.below, first-suc c v p.exists) in
+    let inside : k < length (word c v) = omega (arith, p.from, p.below, first-suc c v) in
     let at : first c v + k ≡ i = omega (arith, p.from) in
-    let same : letter c i ≡ get_or (word c v) k no_letter = ap (letter c) (sym at) ∙ letter-place c v k p.exists inside in
-    let high : first c (suc v) ≡ first c v + length (word c v) = first-suc c v p.exists in
-    let entry : get_or places (first c v + k) no_place ≡ place_between (first c v) (first c v + length (word c v)) v (get_or (word c v) k no_letter) (first c v + k) = t.place_at v k p.exists inside in
+    let same : letter c i ≡ get_or (word c v) k no_letter = ap (letter c) (sym at) ∙ letter_place c v k inside in
+    let high : first c (suc v) ≡ first c v + length (word c v) = first-suc c v in
+    let entry : get_or places (first c v + k) no_place ≡ place_between (first c v) (first c v + length (word c v)) v (get_or (word c v) k no_letter) (first c v + k) = t.place_at v k p.in_chain inside in
     ap (λ (n : ℕ). get_or places n no_place) (sym at) ∙ entry
     ∙ ap (λ (n : ℕ). place_between (first c v) n v (get_or (word c v) k no_letter) (first c v + k)) (sym high)
     ∙ ap (λ (x : Letter). place_between (first c v) (first c (suc v)) v x (first c v + k)) (sym same)
@@ -31,17 +32,17 @@ pub whole : (c : Chain) (places : List Place) (firsts : List ℕ) → AreGoodBel
     AreTables c places firsts
 whole c places firsts g t =
     record {
-      len = t.len ∙ first-length c;
+      len = t.len ∙ first_all c;
       firsts_len = t.firsts_len;
       first_at = t.first_at;
       letter_at = λ i h. ap (λ (p : Place). p.letter) (entry_at c places firsts t i h);
       next_at = λ i h. ap (λ (p : Place). p.next) (entry_at c places firsts t i h);
       previous_at = λ i h. ap (λ (p : Place). p.previous) (entry_at c places firsts t i h);
       word_at = λ i h. ap (λ (p : Place). p.word) (entry_at c places firsts t i h);
-      first_below = λ w h. rw (t.first_at w h) (first-lt c w h (g w h).nonempty);
-      next_below = λ i h. rw (entry_at c places firsts t i h) (succ-lt c i h);
-      previous_below = λ i h. rw (entry_at c places firsts t i h) (prev-lt c i h);
-      word_below = λ i h. rw (entry_at c places firsts t i h) (is_place c i h).exists;
+      first_below = λ w h. rw (t.first_at w h) (first-lt c w (g w h).nonempty);
+      next_below = λ i h. rw (entry_at c places firsts t i h) (neighbours c i h).succ_inside;
+      previous_below = λ i h. rw (entry_at c places firsts t i h) (neighbours c i h).prev_inside;
+      word_below = λ i h. rw (entry_at c places firsts t i h) (place c i h).in_chain;
     }
 
 -- one word more
@@ -62,7 +63,7 @@ place_next : (c : Chain) (n : ℕ) (old new : List Place) → n < length c → l
     get_or new (first c w + k) no_place ≡ place_between (first c w) (first c w + length (word c w)) w (get_or (word c w) k no_letter) (first c w + k)
 place_next c n old new h len below a w k lw lk = elim (cases_lt w n) [
   | inl lt ↦
-      (let inside : first c w + k < length old = omega (arith, first-suc c w (omega arith), first-mono c (suc w) n (omega arith)) in
+      (let inside : first c w + k < length old = omega (arith, first-suc c w, first-mono c (suc w) n (omega arith)) in
       a.before (first c w + k) inside ∙ below w k lt lk)
   | inr ge ↦
       (let at : n ≡ w = omega arith in
@@ -76,7 +77,7 @@ pub next_word : (c : Chain) (n : ℕ) (old new : List Place) (firsts : List ℕ)
     AppendsBelow old new (word c n) n (length (word c n)) → AreTablesBelow c (n + 1) new (firsts ++ length old ∷ [])
 next_word c n old new firsts h t a =
     record {
-      len = rw add-one (omega (arith, a.len, t.len, first-suc c n h));
+      len = rw add-one (omega (arith, a.len, t.len, first-suc c n));
       firsts_len = omega (arith, t.firsts_len, length-append firsts (length old ∷ []));
       first_at = first_next c n firsts (length old) t.firsts_len t.len t.first_at;
       place_at = place_next c n old new h t.len t.place_at a;

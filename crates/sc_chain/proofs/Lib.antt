@@ -1,3 +1,10 @@
-pub mod Positions
+pub mod Firsts
 pub mod OneFault
 pub mod Entries
+pub mod Balanced
+pub mod TextLaws
+pub mod SpellingLaws
+pub mod CoefficientLaws
+pub mod DecisionLaws
+pub mod ReadingLaws
+pub mod WordLists

@@ -1,6 +1,7 @@
 -- A list of words has at most one fault, and one without a fault is a chain within the limits.
-use Rattle.std.specs.Prelude.{IsErrOf, ◌↔◌, Result, Ok, Err}
-use Rattle.std.proofs.Common.{◌≡◌, ◌≢◌, zero, suc, ℕ, ◌+◌, ◌-◌, ◌<◌, ◌≤◌, inl, inr, false, true, [], length, get_or, sym, ap, subst, ◌∙◌, arith}
+use Rattle.std.specs.Option.{is_some, MatchOption}
+use Rattle.std.specs.Prelude.{Bool, not, IsTrue, Option, Some, None, IsErrOf, ◌↔◌, Result, Ok, Err}
+use Rattle.std.proofs.Common.{refl, ◌≡◌, ◌≢◌, zero, suc, ℕ, ◌+◌, ◌-◌, ◌<◌, ◌≤◌, inl, inr, false, true, [], length, get_or, sym, ap, subst, ◌∙◌, arith}
 use Rattle.std.proofs.lemmas.Bool.{cases_order}
 use Rattle.sc_theory.specs.Words.{Word, IsReduced}
 use Rattle.sc_theory.specs.Places.{cancels_next, IsLeastCancelling}
@@ -10,7 +11,8 @@ use Rattle.sc_chain.specs.Faults.{IsSmallChain, AreGenerators, IsGoodWord, AreGo
 use Rattle.sc_chain.specs.declared.fault.ChainFault.{ChainFault}
 use Rattle.sc_chain.specs.declared.fault.ChainFault.TheVariants.{EmptyWord, NotReduced, ManyWords, ManyPositions, Heavy, Memory}
 use Rattle.sc_chain.specs.declared.limits.TheConstants.{GENERATORS}
-use Rattle.sc_chain.proofs.Positions.{IsPlace, is_place, letter-place, first-suc, nonempty-length}
+use Rattle.sc_theory.proofs.ChainLaws.{Place as Placed, place, place_inside, letter_place, first-suc}
+use Rattle.sc_chain.proofs.Firsts.{nonempty-length}
 
 pub good_word : (w : Word) → length w ≢ 0 → IsReduced w → IsGoodWord w
 good_word w h r = record { nonempty = λ e. h (ap length e); reduced = r }
@@ -92,12 +94,12 @@ accepted_faultless c Memory a q = q
 
 generator_at : (c : Chain) → AreGenerators c → (i : ℕ) → i < positions c → (letter c i).number < GENERATORS
 generator_at c g i h =
-    let p : IsPlace c i = is_place c i h in
+    let p : Placed c i = place c i h in
     let k : ℕ = i - first c (word_of c i) in
-    let inside : k < length (word c (word_of c i)) = omega (arith, p.from, p.below, first-suc c (word_of c i) p.exists) in
+    let inside : k < length (word c (word_of c i)) = omega (arith, p.from, p.below, first-suc c (word_of c i)) in
     let at : first c (word_of c i) + k ≡ i = omega (arith, p.from) in
-    let same : letter c i ≡ get_or (word c (word_of c i)) k no_letter = ap (letter c) (sym at) ∙ letter-place c (word_of c i) k p.exists inside in
-    rw same (g (word_of c i) k p.exists inside)
+    let same : letter c i ≡ get_or (word c (word_of c i)) k no_letter = ap (letter c) (sym at) ∙ letter_place c (word_of c i) k inside in
+    rw same (g (word_of c i) k p.in_chain inside)
 
 pub accepted_small : (c : Chain) → IsAccepted c → AreGenerators c → IsSmallChain c
 accepted_small c a g =
@@ -127,4 +129,14 @@ words-le c zero h g = omega arith
 words-le c (suc n) h g =
     let below : n ≤ first c n = words-le c n (omega arith) (λ w p. g w (omega arith)) in
     let one : 0 < length (word c n) = nonempty-length (word c n) (g n (omega arith)).nonempty in
-    omega (arith, first-suc c n (omega arith))
+    omega (arith, first-suc c n)
+
+pub generators_of : (c : Chain) → IsSmallChain c → AreGenerators c
+generators_of c s w k hw hk = rw (← letter_place c w k hk) (s.generators (first c w + k) (place_inside c w k hk))
+
+-- a word is reduced where no place is found at which it isn't
+pub reduced_where_none : (v w : Word) (o : Option ℕ) (b : Bool) → v ≡ w → is_some o ≡ not b → MatchOption o (IsReduced v) (IsLeastCancelling v) → IsTrue b ↔ IsReduced w
+reduced_where_none v w None true e t m = ((λ _. subst IsReduced e m), (λ _. refl))
+reduced_where_none v w None false e t m = absurd (cc)
+reduced_where_none v w (Some k) true e t m = absurd (cc)
+reduced_where_none v w (Some k) false e t m = ((λ s. absurd (cc)), (λ r. absurd (unreduced_from_cancelling v k m (subst IsReduced (sym e) r))))

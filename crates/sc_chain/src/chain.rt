@@ -1,14 +1,16 @@
 //! Chains, and the tables by which their positions are looked up.
 
-ghost use Rattle.std.specs.Prelude.{◌≡◌, ◌≢◌, ◌<◌, ◌≤◌, ◌^◌, ◌+◌, ◌↔◌, length, IfOk, IsErrOf, OnOk, vec_len};
-ghost use Rattle.std.specs.List.{All};
-ghost use Rattle.sc_theory.specs.Chains.{positions, weighted_length, letter, succ, prev, first, word_of, weight};
-ghost use Rattle.sc_chain.specs.declared.limits.TheConstants.{GENERATORS, MAX_POSITIONS};
+ghost use Rattle.std.specs.Prelude.{◌≡◌, ◌≢◌, ◌<◌, ◌≤◌, ◌^◌, ◌+◌, ◌↔◌, length, IfOk, IfSome, IsNone, IsErrOf, OnOk, vec_len};
+ghost use Rattle.sc_theory.specs.Chains.{positions, weighted_length, letter, succ, prev, first, word_of, weight, chain_total, IsBalanced};
+ghost use Rattle.sc_chain.specs.declared.limits.TheConstants.{MAX_POSITIONS};
+ghost use Rattle.sc_chain.specs.Balance.{IsFirstUnbalanced};
 ghost use Rattle.sc_chain.specs.Faults.{AreGoodBelow};
 ghost use Rattle.sc_chain.specs.Tables.{AppendsBelow, AreTables};
 
 use crate::fault::ChainFault;
 use crate::faults::{first_fault, weigh};
+use crate::limits::GENERATORS;
+use crate::totals::total_in_words;
 use crate::word::Word;
 use sc_theory::Letter;
 use std::alloc::{AllocError, Global};
@@ -70,6 +72,17 @@ fn append_word(places: &mut Vec<Place>, word: &[Letter], number: usize) -> Resul
         })?;
     }
     Ok(())
+}
+
+/// The same words with their weights once more.
+fn copy_words(alloc: Global, words: &[(u32, Word)]) -> Result<Vec<(u32, Word)>, AllocError>
+    ensures { IfOk result (λ copies. copies.items ≡ words.now) }
+{
+    let mut copies = Vec::with_capacity(alloc, words.len())?;
+    for entry in words {
+        copies.push((entry.0, entry.1.copy(alloc)?))?;
+    }
+    Ok(copies)
 }
 
 /// The tables of a list of few words.
@@ -197,5 +210,41 @@ impl Chain {
         ensures { result ≡ weight self.now w }
     {
         self.words[w].0
+    }
+
+    /// The words in their order, each behind its weight.
+    pub fn entries(&self) -> &[(u32, Word)]
+        ensures { result.now ≡ self.now }
+    {
+        self.words.as_slice()
+    }
+
+    /// The total of a generator: the sum over the words of weight times the word's letters of the generator, its
+    /// inverse counted as -1.
+    pub fn total(&self, generator: u8) -> i64
+        ensures { result ≡ chain_total generator self.now }
+    {
+        total_in_words(self.words.as_slice(), generator)
+    }
+
+    /// The first generator whose total isn't 0, with its total.
+    pub fn first_unbalanced(&self) -> Option<(u8, i64)>
+        ensures balanced { IsNone result ↔ IsBalanced self.now }
+        ensures first { IfSome result (λ found. IsFirstUnbalanced self.now found.0 found.1) }
+    {
+        for generator in 0..GENERATORS {
+            let total = total_in_words(self.words.as_slice(), generator);
+            if total != 0 {
+                return Some((generator, total));
+            }
+        }
+        None
+    }
+
+    /// The same chain once more.
+    pub fn copy(&self, alloc: Global) -> Result<Chain, AllocError>
+        ensures { IfOk result (λ c. c ≡ self.now) }
+    {
+        Chain::of_accepted(alloc, copy_words(alloc, self.words.as_slice())?)
     }
 }

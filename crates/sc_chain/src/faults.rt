@@ -13,7 +13,7 @@ use crate::word::Word;
 use sc_theory::Letter;
 
 /// The first place whose letter is the inverse of the next one round the word.
-fn least_cancelling(word: &[Letter]) -> Option<usize>
+pub fn least_cancelling(word: &[Letter]) -> Option<usize>
     ensures { MatchOption result (IsReduced word.now) (IsLeastCancelling word.now) }
 {
     for (place, letter) in word.iter().enumerate() {

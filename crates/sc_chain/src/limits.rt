@@ -13,4 +13,7 @@ pub const MAX_POSITIONS: usize = 64;
 pub const MAX_LENGTH: u64 = 1_048_576;
 
 /// The size of a coefficient in a chain text.
-pub const MAX_COEFFICIENT: i32 = 1000;
+pub const MAX_COEFFICIENT: u32 = 1000;
+
+/// The digits of a coefficient in a chain text.
+pub const COEFFICIENT_DIGITS: usize = 4;

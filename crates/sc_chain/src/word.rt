@@ -1,8 +1,10 @@
 //! Words.
 
 ghost use Rattle.std.specs.Prelude.{◌≡◌, ◌<◌, ◌↔◌, [], ◌∷◌, ◌++◌, length, get_or, IsTrue, IfOk, OnOk, OnErr};
+ghost use Rattle.sc_theory.specs.Words.{IsReduced};
 ghost use Rattle.sc_theory.specs.Chains.{no_letter};
 
+use crate::faults::least_cancelling;
 use sc_theory::Letter;
 use std::alloc::{AllocError, Global};
 use std::marker::Model;
@@ -84,6 +86,13 @@ impl Word {
         ensures { result.now ≡ self.now }
     {
         self.letters.as_slice()
+    }
+
+    /// Whether no letter is the inverse of the next one round the word.
+    pub fn is_reduced(&self) -> bool
+        ensures { IsTrue result ↔ IsReduced self.now }
+    {
+        least_cancelling(self.as_slice()).is_none()
     }
 
     /// The same word once more.

@@ -1,5 +1,5 @@
 -- The kinds of flaws in their order: the first flaw, and no flaw at all.
-use Rattle.std.proofs.Common.{◌≡◌, ◌≢◌, ℕ, zero, suc, Bool, true, false, ◌+◌, ◌<◌, ◌≤◌, ◌⊎◌, ◌↔◌, inl, inr, Option, Some, None, length, get_or, sym, ◌∙◌, ap, subst, refl, arith}
+use Rattle.std.proofs.Common.{◌≡◌, ℕ, zero, suc, Bool, true, false, ◌<◌, ◌⊎◌, inl, inr, Some, length, sym, ◌∙◌, ap, subst, refl, arith}
 use Rattle.std.proofs.lemmas.Bool.{cases_eq, cases_lt, cases_order, true≢false, false≢true}
 use Rattle.sc_theory.specs.Words.{inverse_letter}
 use Rattle.sc_theory.specs.Chains.{Chain, positions, letter, succ, first}
@@ -7,7 +7,7 @@ use Rattle.sc_theory.specs.Fatgraphs.{Sides, IsFatgraph, label, mate, next, side
 use Rattle.sc_theory.specs.declared.Letter.{Letter as AnyLetter}
 use Rattle.sc_fatgraph.specs.declared.flaws.FlawKind.{FlawKind}
 use Rattle.sc_fatgraph.specs.declared.flaws.FlawKind.TheVariants.{Range, Mate, Letter, Next, Label, Count}
-use Rattle.sc_fatgraph.specs.Flaws.{HasFlaw, HasRangeFlaw, HasMateFlaw, HasLetterFlaw, HasNextFlaw, HasLabelFlaw, HasCountFlaw, rank, IsFirstFlaw, IsLeastPlace, AreInRange}
+use Rattle.sc_fatgraph.specs.Flaws.{HasFlaw, HasRangeFlaw, HasMateFlaw, HasLetterFlaw, HasNextFlaw, rank, IsFirstFlaw, IsLeastPlace, AreInRange}
 
 -- the kind of a rank
 kind_of : ℕ → FlawKind

@@ -1,12 +1,11 @@
 -- A walk round a vertex that marks each side that it comes through.
-use Rattle.std.proofs.Common.{cond, ◌≡◌, ◌≢◌, ℕ, zero, suc, ◌+◌, ◌<◌, ◌≤◌, Bool, true, false, ◌⊎◌, inl, inr, List, length, get_or, sym, ◌∙◌, ap, subst, refl, arith, not, get_or-set_other, get_or-set_same}
-use Rattle.std.specs.Fn.{iterate}
+use Rattle.std.proofs.Common.{cond, ◌≡◌, ◌≢◌, ℕ, suc, ◌<◌, Bool, true, false, ◌⊎◌, inl, inr, List, length, get_or, sym, ◌∙◌, ap, refl, arith, not, get_or-set_other, get_or-set_same}
 use Rattle.std.specs.List.{count_by}
 use Rattle.std.proofs.Math.ListN.{set, length-set}
 use Rattle.std.proofs.lemmas.Bool.{cases_eq}
 use Rattle.std.proofs.lemmas.List.Sums.{sum_by-set}
 use Rattle.sc_algebra.proofs.Cycles.{iterate-last}
-use Rattle.sc_theory.specs.Fatgraphs.{Sides, mate, next, turn}
+use Rattle.sc_theory.specs.Fatgraphs.{Sides, next, turn}
 use Rattle.sc_fatgraph.specs.Orbits.{IsRibbon, IsInOrbit, IsMarked, IsClosed}
 
 pub turn_in_range : (g : Sides) → IsRibbon g → (s : ℕ) → s < length g → turn g s < length g

@@ -1,11 +1,11 @@
 -- Marks on the orbits of the sides below one: the next side has none exactly where no turns take it to a smaller number.
-use Rattle.std.proofs.Common.{cond, ◌≡◌, ◌≢◌, ℕ, zero, suc, ◌+◌, ◌<◌, ◌≤◌, Bool, true, false, ◌⊎◌, ◌&&◌, nat_le, IsTrue, inl, inr, List, length, get_or, sym, ◌∙◌, ap, subst, refl, arith, add-one, add-zero}
+use Rattle.std.proofs.Common.{cond, ◌≡◌, ℕ, zero, suc, ◌+◌, ◌<◌, ◌≤◌, Bool, true, false, ◌⊎◌, nat_le, inl, inr, List, length, get_or, sym, ◌∙◌, ap, subst, refl, arith, add-one, add-zero}
 use Rattle.std.specs.Fn.{iterate}
 use Rattle.std.proofs.lemmas.Bool.{cases_lt, cases_Bool, and_cases, leb-false, false≢true}
 use Rattle.sc_algebra.specs.Sums.{count_below}
 use Rattle.sc_algebra.specs.Permutations.{IsPermutation, is_least_for}
 use Rattle.sc_algebra.proofs.Cycles.{iterate-add, period, least_means_least}
-use Rattle.sc_theory.specs.Fatgraphs.{Sides, mate, next, turn, vertices}
+use Rattle.sc_theory.specs.Fatgraphs.{Sides, mate, next, turn}
 use Rattle.sc_fatgraph.specs.Orbits.{IsRibbon, IsInOrbit, IsMarked, IsClosed}
 use Rattle.sc_fatgraph.proofs.MarkWalks.{turn_in_range}
 

@@ -1,14 +1,13 @@
 //! The flaws of a list of sides that is no labelled fatgraph: for each kind the least place that has it.
 
-ghost use Rattle.std.specs.Prelude.{◌≡◌, ℕ, ◌^◌, ◌<◌, ◌↔◌, IsTrue, false, length, get_or, IfOk, MatchOption};
+ghost use Rattle.std.specs.Prelude.{◌≡◌, ℕ, ◌^◌, ◌<◌, false, length, get_or, IfOk, MatchOption};
 ghost use Rattle.sc_theory.specs.Fatgraphs.{IsFatgraph, mate, next};
 ghost use Rattle.sc_fatgraph.specs.declared.flaws.SurfaceFault.TheVariants.{Memory};
-ghost use Rattle.sc_theory.specs.Words.{inverse_letter};
 ghost use Rattle.sc_theory.specs.Chains.{positions};
 ghost use Rattle.sc_fatgraph.specs.Flaws.{HasRangeFlaw, HasMateFlaw, HasLetterFlaw, HasNextFlaw, HasLabelFlaw, HasCountFlaw, IsLeastPlace, IsFirstFlaw, AreInRange, AreLabelCounts};
 
 use crate::Side;
-use sc_chain::{Chain, Letter};
+use sc_chain::{Chain, is_inverse};
 use std::alloc::{AllocError, Global};
 
 /// What a list of sides fails in. The kinds stand in the order in which they are tried.
@@ -85,13 +84,6 @@ fn first_mate_flaw(sides: &[Side]) -> Option<u32>
     None
 }
 
-/// Whether two letters are inverse.
-fn are_inverse(x: Letter, y: Letter) -> bool
-    ensures { IsTrue result ↔ (y ≡ inverse_letter x) }
-{
-    x.number == y.number && x.inverse != y.inverse
-}
-
 /// The least side whose letter isn't the inverse of its mate's.
 fn first_letter_flaw(chain: &Chain, sides: &[Side]) -> Option<u32>
     requires few { length sides.now < 2 ^ 32 }
@@ -102,7 +94,7 @@ fn first_letter_flaw(chain: &Chain, sides: &[Side]) -> Option<u32>
         let side = sides[s as usize];
         let mate = sides[side.mate as usize];
         let letter = chain.letter(side.label as usize);
-        if !are_inverse(letter, chain.letter(mate.label as usize)) {
+        if !is_inverse(letter, chain.letter(mate.label as usize)) {
             return Some(s);
         }
     }

@@ -2,14 +2,21 @@
 //! and else its first flaw, and the counts of a fatgraph's sides, vertices and edges.
 #![tactic(auto)]
 
+mod cost;
 mod flaws;
 pub mod laws;
 pub mod limits;
 mod orbits;
 mod side_list;
 mod surface;
+mod text;
 
+pub use cost::fraction;
 pub use flaws::{FlawKind, SurfaceFault};
 pub use sc_theory::Side;
 pub use side_list::Sides;
 pub use surface::{Counts, Fatgraph};
+pub use text::{SurfaceText, read_surface};
+
+#[cfg(test)]
+mod tests;

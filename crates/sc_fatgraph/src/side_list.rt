@@ -31,6 +31,13 @@ impl Sides {
         }
     }
 
+    /// These sides.
+    pub fn from_vec(items: Vec<Side>) -> Self
+        ensures { result ≡ items.items }
+    {
+        Sides { items }
+    }
+
     /// Puts a side after the others.
     pub fn push(&mut self, side: Side) -> Result<(), AllocError>
         ensures ok { OnOk result (self.new ≡ self.old ++ side ∷ []) }

@@ -1,10 +1,11 @@
 -- Laws of taking and delivering bytes in pieces.
-use Rattle.std.proofs.Common.{◌≡◌, ℕ, ◌+◌, ◌-◌, ◌<◌, ◌≤◌, Bool, IsTrue, Option, None, Some, IfSome, List, [], ◌∷◌, ◌++◌, length, take, drop, refl, sym, ap, ◌∙◌, append_assoc, append-nil, subst, arith, inl, inr}
-use Rattle.std.proofs.Math.Seq.{take-add}
+use Rattle.std.proofs.Common.{◌≡◌, ℕ, Bool, IsTrue, inl, inr, ◌+◌, ◌-◌, ◌≤◌, Option, None, Some, List, [], ◌++◌, length, take, drop, sym, ap, ◌∙◌, append_assoc, append-nil, subst, arith}
+use Rattle.std.proofs.Math.Seq.{take-add, take-append-add}
 use Rattle.std.proofs.lemmas.List.{take_all, take_at, take-append-drop, drop-drop, length-drop, length-take, length-take-le, take-append-le, drop_at, length-append}
 use Rattle.std.proofs.KnownBytes.{Consumes-trans}
-use Rattle.std.specs.Io.KnownBytes.{Consumes, IsAtEnd}
+use Rattle.std.specs.Io.KnownBytes.{Consumes}
 use Rattle.sc_outside.specs.Told.{Delivered, Took, TookPart}
+use Rattle.sc_outside.specs.Faults.{Rose}
 
 pub Took-nil : (a : Option (List ℕ)) → Took a a []
 Took-nil None = tt
@@ -73,3 +74,13 @@ given_next items front others i k e h =
     let filled : front ≡ take k (drop i items) = e ∙ ap (take k) rest in
     let size : length front ≡ k = ap length filled ∙ length-take-le k (drop i items) (subst (λ l. k ≤ length l) rest h) in
     sym (ap (λ l. l ++ drop (i + k) items) (take_at front others k size ∙ filled) ∙ ap (λ l. take k (drop i items) ++ l) (sym (drop-drop k i items)) ∙ take-append-drop k (drop i items))
+
+-- what was taken before a part of a text, and the part
+pub TookPart-after : (a b c : Option (List ℕ)) (bs cs : List ℕ) → Took a b bs → TookPart b c cs → TookPart a c (bs ++ cs)
+TookPart-after a b c bs cs p q =
+    (length bs + q.0, omega (arith, q.1, length-append bs cs), subst (Took a c) (sym (take-append-add bs cs q.0)) (Took-trans a b c bs _ p q.2))
+
+-- a count that rose before goes on to have risen
+pub Rose-later : (a b c : ℕ) (s t : Bool) → Rose a b s → b ≤ c → (IsTrue s → IsTrue t) → Rose a c t
+Rose-later a b c s t (inl rise) le on = inl (omega arith)
+Rose-later a b c s t (inr last) le on = inr (on last)

@@ -1,7 +1,5 @@
 //! A source and a sink in memory that never fail.
-ghost use Rattle.std.specs.Prelude.{◌≡◌, ℕ, ◌+◌, ◌-◌, ◌<◌, ◌≤◌, Bool, true, false, IsTrue, ◌↔◌, ◌⊎◌, Option, None, Some, List, [], ◌++◌, length, take, drop, min, vec_len, IfSome, IfOk, OnOk, OnErr, IsOk, if◌then◌else◌};
-ghost use Rattle.std.specs.Io.KnownBytes.{Consumes, IsAtEnd};
-ghost use Rattle.sc_outside.specs.Faults.{Rose};
+ghost use Rattle.std.specs.Prelude.{◌≡◌, ◌+◌, ◌-◌, ◌<◌, ◌≤◌, false, IsTrue, ◌↔◌, ◌⊎◌, Some, [], ◌++◌, length, take, drop, min, vec_len, IfOk, if◌then◌else◌};
 ghost use Rattle.sc_outside.specs.Told.{Took};
 ghost use Rattle.sc_outside.specs.Stores.{Supply, Shelf, told_unless};
 
@@ -60,7 +58,8 @@ impl Source for CalmSource {
     ghost stands = { λ _. false };
 
     fn read(&mut self, room: &mut [u8]) -> Result<usize, Failed>
-        ensures count { result ≡ Ok (min (length room.old) (min self.old.piece (length self.old.left))) }
+        ensures count { result ≡ Ok (min (length room.old)
+            (min self.old.piece (length self.old.left))) }
         ensures next_bytes { IfOk result (λ k. self.old.left ≡ take k room.new ++ self.new.left) }
         ensures ended { result ≡ Ok 0 → 0 < length room.old → self.old.left ≡ [] }
         ensures same_piece { self.new.piece ≡ self.old.piece }
@@ -125,8 +124,10 @@ impl Sink for CalmSink {
     fn write(&mut self, bytes: &[u8]) -> Result<usize, Failed>
         ensures count { result ≡ Ok (length bytes.now) }
         ensures kept { self.new.kept ≡ take self.old.room (self.old.kept ++ bytes.now) }
-        ensures passed { IsTrue self.new.passed ↔ (IsTrue self.old.passed ⊎ (self.old.room < length self.old.kept + length bytes.now)) }
-        ensures appended { Took (told_unless self.old.passed self.old.kept) (told_unless self.new.passed self.new.kept) bytes.now }
+        ensures passed { IsTrue self.new.passed ↔
+            (IsTrue self.old.passed ⊎ (self.old.room < length self.old.kept + length bytes.now)) }
+        ensures appended { Took (told_unless self.old.passed self.old.kept)
+            (told_unless self.new.passed self.new.kept) bytes.now }
         ensures same_room { self.new.room ≡ self.old.room }
     {
         let free = self.room - self.bytes.len();

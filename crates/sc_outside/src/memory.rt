@@ -1,5 +1,5 @@
 //! A source and a sink in memory whose calls fail as planned.
-ghost use Rattle.std.specs.Prelude.{◌≡◌, ℕ, ◌+◌, ◌<◌, ◌≤◌, Bool, false, IsTrue, ◌↔◌, ◌⊎◌, Some, [], ◌++◌, length, take, min, IfOk, OnOk, OnErr, IsErr, Contains};
+ghost use Rattle.std.specs.Prelude.{◌≡◌, ◌+◌, ◌<◌, ◌≤◌, false, IsTrue, ◌↔◌, ◌⊎◌, Some, [], ◌++◌, length, take, min, IfOk, OnErr, IsErr, Contains};
 ghost use Rattle.sc_outside.specs.Faults.{Rose, CountsFault, next_count, stands_at_last};
 ghost use Rattle.sc_outside.specs.Told.{Took};
 ghost use Rattle.sc_outside.specs.Stores.{told_unless};
@@ -33,7 +33,13 @@ impl MemorySource {
     /// A source of exactly these bytes. The numbers of calls stop at 2^64 - 1.
     pub fn new(bytes: Vec<u8>, piece: usize, fails: Vec<u64>) -> MemorySource
         requires { 0 < piece }
-        ensures { result ≡ record { left = bytes.items; piece = piece; fails = fails.items; calls = 0; faults = 0 } }
+        ensures { result ≡ record {
+          left = bytes.items;
+          piece = piece;
+          fails = fails.items;
+          calls = 0;
+          faults = 0;
+        } }
     {
         MemorySource {
             calm: CalmSource::new(bytes, piece),
@@ -55,14 +61,17 @@ impl Source for MemorySource {
 
     fn read(&mut self, room: &mut [u8]) -> Result<usize, Failed>
         ensures fails { IsErr result ↔ Contains self.old.fails self.old.calls }
-        ensures count { IfOk result (λ k. k ≡ min (length room.old) (min self.old.piece (length self.old.left))) }
+        ensures count { IfOk result (λ k. k ≡ min (length room.old)
+            (min self.old.piece (length self.old.left))) }
         ensures next_bytes { IfOk result (λ k. self.old.left ≡ take k room.new ++ self.new.left) }
         ensures ended { result ≡ Ok 0 → 0 < length room.old → self.old.left ≡ [] }
         ensures nothing { OnErr result (self.new.left ≡ self.old.left) }
         ensures counts { CountsFault result self.old.faults self.new.faults }
-        ensures fault { OnErr result (Rose self.old.faults self.new.faults (stands_at_last self.new.faults)) }
+        ensures fault { OnErr result (Rose self.old.faults self.new.faults
+            (stands_at_last self.new.faults)) }
         ensures never_falls { self.old.faults ≤ self.new.faults }
-        ensures stands_on { IsTrue (stands_at_last self.old.faults) → IsTrue (stands_at_last self.new.faults) }
+        ensures stands_on { IsTrue (stands_at_last self.old.faults) →
+            IsTrue (stands_at_last self.new.faults) }
         ensures next_call { self.new.calls ≡ next_count self.old.calls }
         ensures same_piece { self.new.piece ≡ self.old.piece }
         ensures same_fails { self.new.fails ≡ self.old.fails }
@@ -106,7 +115,15 @@ impl MemorySink {
         piece: usize,
         fails: Vec<u64>,
     ) -> Result<MemorySink, AllocError>
-        ensures { IfOk result (λ s. s ≡ record { room = room; kept = []; passed = false; piece = piece; fails = fails.items; calls = 0; faults = 0 }) }
+        ensures { IfOk result (λ s. s ≡ record {
+          room = room;
+          kept = [];
+          passed = false;
+          piece = piece;
+          fails = fails.items;
+          calls = 0;
+          faults = 0;
+        }) }
     {
         let calm = CalmSink::new(alloc, room)?;
         Ok(MemorySink {
@@ -135,17 +152,24 @@ impl Sink for MemorySink {
     ghost stands = { λ s. stands_at_last s.faults };
 
     fn write(&mut self, bytes: &[u8]) -> Result<usize, Failed>
-        ensures fails { IsErr result ↔ (Contains self.old.fails self.old.calls ⊎ ((self.old.piece ≡ 0) × (0 < length bytes.now))) }
+        ensures fails { IsErr result ↔ (Contains self.old.fails self.old.calls ⊎
+            ((self.old.piece ≡ 0) × (0 < length bytes.now))) }
         ensures count { IfOk result (λ k. k ≡ min self.old.piece (length bytes.now)) }
         ensures some { IfOk result (λ k. 0 < length bytes.now → 0 < k) }
-        ensures kept { IfOk result (λ k. self.new.kept ≡ take self.old.room (self.old.kept ++ take k bytes.now)) }
-        ensures passed { IfOk result (λ k. IsTrue self.new.passed ↔ (IsTrue self.old.passed ⊎ (self.old.room < length self.old.kept + k))) }
-        ensures appended { IfOk result (λ k. Took (told_unless self.old.passed self.old.kept) (told_unless self.new.passed self.new.kept) (take k bytes.now)) }
-        ensures nothing { OnErr result ((self.new.kept ≡ self.old.kept) × (self.new.passed ≡ self.old.passed)) }
+        ensures kept { IfOk result (λ k. self.new.kept ≡ take self.old.room
+            (self.old.kept ++ take k bytes.now)) }
+        ensures passed { IfOk result (λ k. IsTrue self.new.passed ↔
+            (IsTrue self.old.passed ⊎ (self.old.room < length self.old.kept + k))) }
+        ensures appended { IfOk result (λ k. Took (told_unless self.old.passed self.old.kept)
+            (told_unless self.new.passed self.new.kept) (take k bytes.now)) }
+        ensures nothing { OnErr result ((self.new.kept ≡ self.old.kept) ×
+            (self.new.passed ≡ self.old.passed)) }
         ensures counts { CountsFault result self.old.faults self.new.faults }
-        ensures fault { OnErr result (Rose self.old.faults self.new.faults (stands_at_last self.new.faults)) }
+        ensures fault { OnErr result (Rose self.old.faults self.new.faults
+            (stands_at_last self.new.faults)) }
         ensures never_falls { self.old.faults ≤ self.new.faults }
-        ensures stands_on { IsTrue (stands_at_last self.old.faults) → IsTrue (stands_at_last self.new.faults) }
+        ensures stands_on { IsTrue (stands_at_last self.old.faults) →
+            IsTrue (stands_at_last self.new.faults) }
         ensures next_call { self.new.calls ≡ next_count self.old.calls }
         ensures same_room { self.new.room ≡ self.old.room }
         ensures same_piece { self.new.piece ≡ self.old.piece }

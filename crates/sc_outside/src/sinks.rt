@@ -1,5 +1,5 @@
 //! Sinks of bytes, and writing a whole text to one.
-ghost use Rattle.std.specs.Prelude.{◌≡◌, ℕ, ◌<◌, ◌≤◌, Bool, IsTrue, Option, List, [], length, take, IfOk, OnOk, OnErr};
+ghost use Rattle.std.specs.Prelude.{ℕ, ◌<◌, ◌≤◌, Bool, IsTrue, Option, List, [], length, take, IfOk, OnOk, OnErr};
 ghost use Rattle.sc_outside.specs.Faults.{Rose};
 ghost use Rattle.sc_outside.specs.Told.{Took, TookPart};
 
@@ -21,7 +21,8 @@ pub trait Sink {
     fn write(&mut self, bytes: &[u8]) -> Result<usize, Failed>
         ensures fits { IfOk result (λ k. k ≤ length bytes.now) }
         ensures some { IfOk result (λ k. 0 < length bytes.now → 0 < k) }
-        ensures appended { IfOk result (λ k. Took (taken self.old) (taken self.new) (take k bytes.now)) }
+        ensures appended { IfOk result (λ k. Took (taken self.old) (taken self.new)
+            (take k bytes.now)) }
         ensures nothing { OnErr result (Took (taken self.old) (taken self.new) []) }
         ensures fault { OnErr result (Rose (faults self.old) (faults self.new) (stands self.new)) }
         ensures never_falls { faults self.old ≤ faults self.new }
@@ -32,7 +33,8 @@ pub trait Sink {
 pub fn write_all<K: Sink>(sink: &mut K, bytes: &[u8]) -> Result<(), Failed>
     ensures all { OnOk result (Took (K.taken sink.old) (K.taken sink.new) bytes.now) }
     ensures part { OnErr result (TookPart (K.taken sink.old) (K.taken sink.new) bytes.now) }
-    ensures fault { OnErr result (Rose (K.faults sink.old) (K.faults sink.new) (K.stands sink.new)) }
+    ensures fault { OnErr result (Rose (K.faults sink.old) (K.faults sink.new)
+        (K.stands sink.new)) }
     ensures never_falls { K.faults sink.old ≤ K.faults sink.new }
     ensures stands_on { IsTrue (K.stands sink.old) → IsTrue (K.stands sink.new) }
 {

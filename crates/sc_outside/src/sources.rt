@@ -1,5 +1,5 @@
 //! Sources of bytes, and reading one to its end.
-ghost use Rattle.std.specs.Prelude.{◌≡◌, ◌≢◌, ℕ, ◌+◌, ◌^◌, ◌<◌, ◌≤◌, Bool, IsTrue, Option, Some, List, [], length, take, vec_len, IfSome, IfOk, OnOk, OnErr, IsErr};
+ghost use Rattle.std.specs.Prelude.{◌≡◌, ℕ, ◌+◌, ◌^◌, ◌<◌, ◌≤◌, Bool, IsTrue, Option, Some, List, [], length, take, vec_len, IfSome, IfOk, OnOk, OnErr, IsErr};
 ghost use Rattle.std.specs.Io.KnownBytes.{Consumes, IsAtEnd};
 ghost use Rattle.sc_outside.specs.Faults.{Rose};
 ghost use Rattle.sc_outside.specs.Told.{Delivered};
@@ -28,7 +28,8 @@ pub trait Source {
     /// isn't empty says that the input has ended.
     fn read(&mut self, room: &mut [u8]) -> Result<usize, Failed>
         ensures fits { IfOk result (λ k. k ≤ length room.old) }
-        ensures next_bytes { IfOk result (λ k. Consumes (left self.old) (left self.new) (take k room.new)) }
+        ensures next_bytes { IfOk result (λ k. Consumes (left self.old) (left self.new)
+            (take k room.new)) }
         ensures ended { result ≡ Ok 0 → 0 < length room.old → IsAtEnd (left self.old) }
         ensures fault { OnErr result (Rose (faults self.old) (faults self.new) (stands self.new)) }
         ensures never_falls { faults self.old ≤ faults self.new }
@@ -77,12 +78,16 @@ pub fn read_all<S: Source>(alloc: Global, source: &mut S, limit: usize) -> Resul
     ensures within { IfOk result (λ v. vec_len v ≤ limit) }
 
     // Long exactly where limit + 1 bytes were delivered.
-    ensures long { result ≡ Err ReadAll.Long → Delivered (S.left source.old) (S.left source.new) (limit + 1) }
-    ensures long_only_over { result ≡ Err ReadAll.Long → IfSome (S.left source.old) (λ input. limit < length input) }
+    ensures long { result ≡ Err ReadAll.Long →
+        Delivered (S.left source.old) (S.left source.new) (limit + 1) }
+    ensures long_only_over { result ≡ Err ReadAll.Long →
+        IfSome (S.left source.old) (λ input. limit < length input) }
     ensures over { IfSome (S.left source.old) (λ input. limit < length input → IsErr result) }
-    ensures memory { result ≡ Err ReadAll.Memory → (n : ℕ) × (n ≤ limit) × Delivered (S.left source.old) (S.left source.new) n }
+    ensures memory { result ≡ Err ReadAll.Memory →
+        (n : ℕ) × (n ≤ limit) × Delivered (S.left source.old) (S.left source.new) n }
 
-    ensures fault { result ≡ Err ReadAll.ReadFault → Rose (S.faults source.old) (S.faults source.new) (S.stands source.new) }
+    ensures fault { result ≡ Err ReadAll.ReadFault →
+        Rose (S.faults source.old) (S.faults source.new) (S.stands source.new) }
     ensures never_falls { S.faults source.old ≤ S.faults source.new }
     ensures stands_on { IsTrue (S.stands source.old) → IsTrue (S.stands source.new) }
     ensures turns { S.calls source.new ≤ S.calls source.old + limit + 1 }

@@ -1,5 +1,5 @@
 //! Sources and sinks over std's readers and writers.
-ghost use Rattle.std.specs.Prelude.{◌≡◌, ℕ, ◌<◌, ◌≤◌, Bool, true, false, IsTrue, IsSome, Option, None, List, [], length, OnOk, OnErr, IfOk, Ok, take, if◌then◌else◌};
+ghost use Rattle.std.specs.Prelude.{◌≡◌, ◌<◌, ◌≤◌, true, false, IsTrue, IsSome, None, [], length, OnErr, IfOk, Ok, take, if◌then◌else◌};
 ghost use Rattle.std.specs.Io.KnownBytes.{Consumes, IsAtEnd, Keeps};
 ghost use Rattle.sc_outside.specs.Faults.{Rose, CountsFault, stands_at_last};
 ghost use Rattle.sc_outside.specs.Told.{Took};
@@ -35,13 +35,21 @@ impl<R: Read> Source for StdSource<R> {
 
     fn read(&mut self, room: &mut [u8]) -> Result<usize, Failed>
         ensures fits { IfOk result (λ k. k ≤ length room.old) }
-        ensures next_bytes { IfOk result (λ k. Consumes (⟦<StdSource<R> as Source>⟧.left self.old) (⟦<StdSource<R> as Source>⟧.left self.new) (take k room.new)) }
-        ensures ended { result ≡ Ok 0 → 0 < length room.old → IsAtEnd (⟦<StdSource<R> as Source>⟧.left self.old) }
-        ensures nothing { OnErr result (Keeps (⟦<StdSource<R> as Source>⟧.left self.old) (⟦<StdSource<R> as Source>⟧.left self.new)) }
-        ensures counts { CountsFault result (⟦<StdSource<R> as Source>⟧.faults self.old) (⟦<StdSource<R> as Source>⟧.faults self.new) }
-        ensures fault { OnErr result (Rose (⟦<StdSource<R> as Source>⟧.faults self.old) (⟦<StdSource<R> as Source>⟧.faults self.new) (⟦<StdSource<R> as Source>⟧.stands self.new)) }
-        ensures never_falls { ⟦<StdSource<R> as Source>⟧.faults self.old ≤ ⟦<StdSource<R> as Source>⟧.faults self.new }
-        ensures stands_on { IsTrue (⟦<StdSource<R> as Source>⟧.stands self.old) → IsTrue (⟦<StdSource<R> as Source>⟧.stands self.new) }
+        ensures next_bytes { let left = ⟦<StdSource<R> as Source>⟧.left in
+            IfOk result (λ k. Consumes (left self.old) (left self.new) (take k room.new)) }
+        ensures ended { let left = ⟦<StdSource<R> as Source>⟧.left in
+            result ≡ Ok 0 → 0 < length room.old → IsAtEnd (left self.old) }
+        ensures nothing { let left = ⟦<StdSource<R> as Source>⟧.left in
+            OnErr result (Keeps (left self.old) (left self.new)) }
+        ensures counts { let faults = ⟦<StdSource<R> as Source>⟧.faults in
+            CountsFault result (faults self.old) (faults self.new) }
+        ensures fault { let faults = ⟦<StdSource<R> as Source>⟧.faults in
+            let stands = ⟦<StdSource<R> as Source>⟧.stands in
+            OnErr result (Rose (faults self.old) (faults self.new) (stands self.new)) }
+        ensures never_falls { let faults = ⟦<StdSource<R> as Source>⟧.faults in
+            faults self.old ≤ faults self.new }
+        ensures stands_on { let stands = ⟦<StdSource<R> as Source>⟧.stands in
+            IsTrue (stands self.old) → IsTrue (stands self.new) }
     {
         match self.reader.read(room) {
             Ok(count) => Ok(count),
@@ -102,13 +110,21 @@ impl<W: Write> Sink for StdSink<W> {
     fn write(&mut self, bytes: &[u8]) -> Result<usize, Failed>
         ensures fits { IfOk result (λ k. k ≤ length bytes.now) }
         ensures some { IfOk result (λ k. 0 < length bytes.now → 0 < k) }
-        ensures appended { IfOk result (λ k. Took (⟦<StdSink<W> as Sink>⟧.taken self.old) (⟦<StdSink<W> as Sink>⟧.taken self.new) (take k bytes.now)) }
-        ensures nothing { OnErr result (Took (⟦<StdSink<W> as Sink>⟧.taken self.old) (⟦<StdSink<W> as Sink>⟧.taken self.new) []) }
-        ensures goes_on_telling { IsSome (⟦<StdSink<W> as Sink>⟧.taken self.old) → IsSome (⟦<StdSink<W> as Sink>⟧.taken self.new) }
-        ensures counts { CountsFault result (⟦<StdSink<W> as Sink>⟧.faults self.old) (⟦<StdSink<W> as Sink>⟧.faults self.new) }
-        ensures fault { OnErr result (Rose (⟦<StdSink<W> as Sink>⟧.faults self.old) (⟦<StdSink<W> as Sink>⟧.faults self.new) (⟦<StdSink<W> as Sink>⟧.stands self.new)) }
-        ensures never_falls { ⟦<StdSink<W> as Sink>⟧.faults self.old ≤ ⟦<StdSink<W> as Sink>⟧.faults self.new }
-        ensures stands_on { IsTrue (⟦<StdSink<W> as Sink>⟧.stands self.old) → IsTrue (⟦<StdSink<W> as Sink>⟧.stands self.new) }
+        ensures appended { let taken = ⟦<StdSink<W> as Sink>⟧.taken in
+            IfOk result (λ k. Took (taken self.old) (taken self.new) (take k bytes.now)) }
+        ensures nothing { let taken = ⟦<StdSink<W> as Sink>⟧.taken in
+            OnErr result (Took (taken self.old) (taken self.new) []) }
+        ensures goes_on_telling { let taken = ⟦<StdSink<W> as Sink>⟧.taken in
+            IsSome (taken self.old) → IsSome (taken self.new) }
+        ensures counts { let faults = ⟦<StdSink<W> as Sink>⟧.faults in
+            CountsFault result (faults self.old) (faults self.new) }
+        ensures fault { let faults = ⟦<StdSink<W> as Sink>⟧.faults in
+            let stands = ⟦<StdSink<W> as Sink>⟧.stands in
+            OnErr result (Rose (faults self.old) (faults self.new) (stands self.new)) }
+        ensures never_falls { let faults = ⟦<StdSink<W> as Sink>⟧.faults in
+            faults self.old ≤ faults self.new }
+        ensures stands_on { let stands = ⟦<StdSink<W> as Sink>⟧.stands in
+            IsTrue (stands self.old) → IsTrue (stands self.new) }
     {
         match self.writer.write(bytes) {
             Ok(count) if count > 0 || bytes.is_empty() => Ok(count),

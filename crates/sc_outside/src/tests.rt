@@ -1,120 +1,141 @@
 //! Reading and writing over sources and sinks in memory and over std's.
 
 use crate::{
-    CalmSink, CalmSource, Failed, MemorySink, MemorySource, ReadAll, Sink, Source, StdSink,
-    StdSource, read_all, write_all,
+    CalmSink, CalmSource, MemorySink, MemorySource, ReadAll, StdSink, StdSource, read_all,
+    write_all,
 };
+use std::alloc::{AllocError, Global};
 use std::test::Fail;
 
 const TEXT: &[u8] = b"surface 4\nwords 1\n";
 
+/// What reading `abcdef` answers over a source in memory.
+fn read_letters(alloc: Global, piece: u8, fails: &[u64], limit: u16) -> Result<Vec<u8>, ReadAll> {
+    let bytes = b"abcdef".to_vec(alloc)?;
+    let piece = usize::from(piece).max(1);
+    let mut source = MemorySource::new(bytes, piece, fails.to_vec(alloc)?);
+    read_all(alloc, &mut source, usize::from(limit))
+}
+
+/// Whether writing TEXT twice went well over a sink in memory, and what the sink took.
+fn write_twice(
+    alloc: Global,
+    room: u8,
+    piece: u8,
+    fails: &[u64],
+) -> Result<(bool, Vec<u8>), AllocError> {
+    let mut sink = MemorySink::new(
+        alloc,
+        usize::from(room),
+        usize::from(piece),
+        fails.to_vec(alloc)?,
+    )?;
+    let well = write_all(&mut sink, TEXT).is_ok() && write_all(&mut sink, TEXT).is_ok();
+    Ok((well, sink.taken().to_vec(alloc)?))
+}
+
 #[test]
-fn reads_to_the_end_or_says_why_not(rt: HostRuntime) -> Result<(), Fail> {
-    let input = b"abcdef";
-    let none: [u64; 0] = [];
+fn reads_to_the_end_or_says_why_not(rt: HostRuntime) {
+    let never: [u64; 0] = [];
     let cases = [
-        (1, none.as_slice(), 6, Ok(6)),
-        (4, none.as_slice(), 6, Ok(6)),
-        (100, none.as_slice(), 1_000_000, Ok(6)),
-        (1, none.as_slice(), 5, Err(ReadAll::Long)),
-        (100, none.as_slice(), 5, Err(ReadAll::Long)),
-        (100, none.as_slice(), 0, Err(ReadAll::Long)),
-        (2, [0].as_slice(), 6, Err(ReadAll::ReadFault)),
-        (2, [3].as_slice(), 6, Err(ReadAll::ReadFault)),
-        (2, [4].as_slice(), 6, Ok(6)),
-        (2, [3].as_slice(), 5, Err(ReadAll::Long)),
+        (1, never.as_slice(), 6, None),
+        (4, never.as_slice(), 6, None),
+        (100, never.as_slice(), 60_000, None),
+        (1, never.as_slice(), 5, Some(ReadAll::Long)),
+        (100, never.as_slice(), 5, Some(ReadAll::Long)),
+        (100, never.as_slice(), 0, Some(ReadAll::Long)),
+        (2, [0].as_slice(), 6, Some(ReadAll::ReadFault)),
+        (2, [3].as_slice(), 6, Some(ReadAll::ReadFault)),
+        (2, [4].as_slice(), 6, None),
+        (2, [3].as_slice(), 5, Some(ReadAll::Long)),
     ];
     for (piece, fails, limit, want) in cases {
-        let bytes = input.to_vec(rt.alloc())?;
-        let mut source = MemorySource::new(bytes, piece, fails.to_vec(rt.alloc())?);
-        match read_all(rt.alloc(), &mut source, limit) {
+        match read_letters(rt.alloc(), piece, fails, limit) {
             Ok(read) => {
-                assert_eq!(rt; Ok(read.len()), want, "{piece} {limit}");
-                assert_eq!(rt; read.as_slice(), input.as_slice(), "{piece} {limit}");
+                assert!(rt; want.is_none(), "{piece} {limit}");
+                assert_eq!(rt; read.as_slice(), b"abcdef".as_slice(), "{piece} {limit}");
             }
-            Err(error) => assert_eq!(rt; Err(error), want, "{piece} {limit}"),
+            Err(error) => assert_eq!(rt; Some(error), want, "{piece} {limit}"),
         }
+    }
+}
+
+#[test]
+fn goes_on_after_a_long_input(rt: HostRuntime) -> Result<(), Fail> {
+    let mut source = CalmSource::new(b"abcdefg".to_vec(rt.alloc())?, 3);
+    for (limit, want) in [(4u16, 0), (9, 2), (0, 0)] {
+        let read = read_all(rt.alloc(), &mut source, usize::from(limit));
+        assert_eq!(rt; read.map_or(0, |v| v.len()), want, "{limit}");
     }
     Ok(())
 }
 
 #[test]
-fn goes_on_where_a_read_stopped(rt: HostRuntime) -> Result<(), Fail> {
-    let alloc = rt.alloc();
-    let mut long = CalmSource::new(b"abcdefg".to_vec(alloc)?, 3);
-    assert_eq!(rt; read_all(alloc, &mut long, 4).err(), Some(ReadAll::Long));
-    assert_eq!(rt; read_all(alloc, &mut long, 9)?.as_slice(), b"fg".as_slice());
-    assert_eq!(rt; read_all(alloc, &mut long, 0)?.len(), 0);
-
-    let mut failing = MemorySource::new(b"abcd".to_vec(alloc)?, 2, [1].to_vec(alloc)?);
-    assert_eq!(rt;
-        read_all(alloc, &mut failing, 9).err(),
-        Some(ReadAll::ReadFault)
-    );
-    assert_eq!(rt;
-        read_all(alloc, &mut failing, 9)?.as_slice(),
-        b"cd".as_slice()
-    );
+fn goes_on_after_a_fault(rt: HostRuntime) -> Result<(), Fail> {
+    let fails = [1].to_vec(rt.alloc())?;
+    let mut source = MemorySource::new(b"abcd".to_vec(rt.alloc())?, 2, fails);
+    for want in [None, Some(2), Some(0)] {
+        let read = read_all(rt.alloc(), &mut source, 9);
+        assert_eq!(rt; read.ok().map(|v| v.len()), want);
+    }
     Ok(())
 }
 
 #[test]
 fn reads_over_many_chunks(rt: HostRuntime) -> Result<(), Fail> {
-    let alloc = rt.alloc();
-    let bytes = vec![in alloc; 7u8; 200_000]?;
+    let bytes = vec![in rt.alloc(); 7u8; 200_000]?;
     let mut source = CalmSource::new(bytes, 65_000);
-    assert_eq!(rt; read_all(alloc, &mut source, 200_000)?.len(), 200_000);
+    assert_eq!(rt; read_all(rt.alloc(), &mut source, 200_000)?.len(), 200_000);
     Ok(())
 }
 
 #[test]
 fn writes_all_or_a_prefix(rt: HostRuntime) -> Result<(), Fail> {
-    let none: [u64; 0] = [];
+    let twice = b"surface 4\nwords 1\nsurface 4\nwords 1\n".as_slice();
+    let never: [u64; 0] = [];
     let cases = [
-        (100, none.as_slice(), Ok(()), 18),
-        (1, none.as_slice(), Ok(()), 18),
-        (10, [1].as_slice(), Err(Failed), 10),
-        (10, [2].as_slice(), Ok(()), 18),
-        (10, [0].as_slice(), Err(Failed), 0),
-        (0, none.as_slice(), Err(Failed), 0),
+        (36, 100, never.as_slice(), true, twice),
+        (100, 1, never.as_slice(), true, twice),
+        (36, 10, [1].as_slice(), false, b"surface 4\n".as_slice()),
+        (36, 10, [4].as_slice(), true, twice),
+        (36, 10, [0].as_slice(), false, b"".as_slice()),
+        (36, 0, never.as_slice(), false, b"".as_slice()),
+        (18, 5, never.as_slice(), true, TEXT),
+        (4, 5, never.as_slice(), true, b"surf".as_slice()),
+        (0, 5, never.as_slice(), true, b"".as_slice()),
     ];
-    for (piece, fails, want, taken) in cases {
-        let mut sink = MemorySink::new(rt.alloc(), 18, piece, fails.to_vec(rt.alloc())?)?;
-        assert_eq!(rt; write_all(&mut sink, TEXT), want, "{piece}");
-        assert_eq!(rt; sink.taken(), &TEXT[..taken], "{piece}");
-        assert_eq!(rt; write_all(&mut sink, b""), Ok(()), "{piece}");
+    for (room, piece, fails, want, kept) in cases {
+        let (well, taken) = write_twice(rt.alloc(), room, piece, fails)?;
+        assert_eq!(rt; well, want, "{room} {piece}");
+        assert_eq!(rt; taken.as_slice(), kept, "{room} {piece}");
     }
     Ok(())
 }
 
 #[test]
 fn drops_what_comes_past_the_room(rt: HostRuntime) -> Result<(), Fail> {
-    for (room, kept) in [(18, 18), (17, 17), (4, 4), (0, 0), (100, 36)] {
-        let mut calm = CalmSink::new(rt.alloc(), room)?;
-        let mut memory = MemorySink::new(rt.alloc(), room, 5, Vec::new(rt.alloc()))?;
-        for _ in 0..2 {
-            assert_eq!(rt; write_all(&mut calm, TEXT), Ok(()), "{room}");
-            assert_eq!(rt; write_all(&mut memory, TEXT), Ok(()), "{room}");
-        }
-        assert_eq!(rt; calm.taken().len(), kept, "{room}");
-        assert_eq!(rt; calm.taken(), memory.taken(), "{room}");
-        assert!(rt;
-            calm.taken().iter().zip(TEXT).all(|(a, b)| a == b),
-            "{room}"
-        );
+    for (room, kept) in [
+        (18u8, TEXT),
+        (17, b"surface 4\nwords 1"),
+        (4, b"surf"),
+        (0, b""),
+    ] {
+        let mut sink = CalmSink::new(rt.alloc(), usize::from(room))?;
+        assert!(rt; write_all(&mut sink, TEXT).is_ok());
+        assert!(rt; write_all(&mut sink, TEXT).is_ok());
+        assert_eq!(rt; sink.taken(), kept, "{room}");
     }
     Ok(())
 }
 
 #[test]
 fn passes_on_what_std_reads_and_writes(rt: HostRuntime) -> Result<(), Fail> {
-    let alloc = rt.alloc();
     let mut source = StdSource::new(TEXT);
-    assert_eq!(rt; read_all(alloc, &mut source, 18)?.as_slice(), TEXT);
+    assert_eq!(rt; read_all(rt.alloc(), &mut source, 18)?.as_slice(), TEXT);
 
-    let mut held = Vec::new(alloc);
-    assert_eq!(rt; write_all(&mut StdSink::new(&mut held), TEXT), Ok(()));
-    assert_eq!(rt; write_all(&mut StdSink::telling(&mut held), TEXT), Ok(()));
+    let mut held = Vec::new(rt.alloc());
+    assert!(rt; write_all(&mut StdSink::new(&mut held), TEXT).is_ok());
+    assert!(rt; write_all(&mut StdSink::telling(&mut held), TEXT).is_ok());
     assert_eq!(rt; held.len(), 36);
     Ok(())
 }

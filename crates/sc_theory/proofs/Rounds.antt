@@ -50,7 +50,7 @@ is_inverse-itself x = false_from_ne_true (is_inverse x x) (λ t. apart x.inverse
 ends_from_none : (x y : Letter) (w : Word) → delete_ends (x ∷ y ∷ w) ≡ None → is_inverse x (last_letter y w) ≡ false
 ends_from_none x y w h = false_from_ne_true (is_inverse x (last_letter y w)) (λ t. none-some (all_but_last y w) (sym h ∙ cond-true (is_inverse x (last_letter y w)) (Some (all_but_last y w)) None t))
 
-none_from_ends : (x y : Letter) (w : Word) → is_inverse x (last_letter y w) ≡ false → delete_ends (x ∷ y ∷ w) ≡ None
+pub none_from_ends : (x y : Letter) (w : Word) → is_inverse x (last_letter y w) ≡ false → delete_ends (x ∷ y ∷ w) ≡ None
 none_from_ends x y w f = cond-false (is_inverse x (last_letter y w)) (Some (all_but_last y w)) None f
 
 -- ---- round the word

@@ -1,2 +1,2 @@
-pub mod SpellingLaws
 pub mod DivisorLaws
+pub mod SpellingLaws

@@ -1,2 +1,3 @@
 pub mod Divisor
+pub mod Operation
 pub mod Spelling

@@ -1,6 +1,7 @@
 //! Sums, differences and products that are exact, or that name the operands which led out of 128 bits.
 ghost use Rattle.std.specs.Prelude.{◌≡◌, ◌+ℤ◌, ◌-ℤ◌, ◌*ℤ◌, FitsSigned, OkIff, IfErr};
 ghost use Rattle.std.specs.Int.{w128};
+ghost use Rattle.sc_whole.specs.Operation.{step};
 
 use std::fmt;
 
@@ -55,7 +56,7 @@ impl std::error::Error for Wide {}
 /// `x + y`, or these operands where the sum is outside `i128`.
 pub fn add(x: i128, y: i128) -> Result<i128, Wide>
     ensures exact { OkIff result (FitsSigned w128 (x +ℤ y)) (x +ℤ y) }
-    ensures evidence { IfErr result (λ w. w ≡ record { op = Op.Add; x = x; y = y }) }
+    ensures evidence { IfErr result (λ w. w ≡ step Op.Add x y) }
 {
     x.checked_add(y).ok_or(Wide { op: Op::Add, x, y })
 }
@@ -63,7 +64,7 @@ pub fn add(x: i128, y: i128) -> Result<i128, Wide>
 /// `x - y`, or these operands where the difference is outside `i128`.
 pub fn sub(x: i128, y: i128) -> Result<i128, Wide>
     ensures exact { OkIff result (FitsSigned w128 (x -ℤ y)) (x -ℤ y) }
-    ensures evidence { IfErr result (λ w. w ≡ record { op = Op.Sub; x = x; y = y }) }
+    ensures evidence { IfErr result (λ w. w ≡ step Op.Sub x y) }
 {
     x.checked_sub(y).ok_or(Wide { op: Op::Sub, x, y })
 }
@@ -71,7 +72,7 @@ pub fn sub(x: i128, y: i128) -> Result<i128, Wide>
 /// `x * y`, or these operands where the product is outside `i128`.
 pub fn mul(x: i128, y: i128) -> Result<i128, Wide>
     ensures exact { OkIff result (FitsSigned w128 (x *ℤ y)) (x *ℤ y) }
-    ensures evidence { IfErr result (λ w. w ≡ record { op = Op.Mul; x = x; y = y }) }
+    ensures evidence { IfErr result (λ w. w ≡ step Op.Mul x y) }
 {
     x.checked_mul(y).ok_or(Wide { op: Op::Mul, x, y })
 }

@@ -1,7 +1,7 @@
 use Rattle.std.proofs.Common.{◌≤◌, length, arith}
 use Rattle.sc_theory.specs.Chains.{first}
 use Rattle.sc_chain.proofs.OneFault.{words-le}
-use Rattle.sc_chain.proofs.Positions.{first-le}
+use Rattle.sc_chain.proofs.Firsts.{first-le}
 use Rattle.sc_chain.proofs.faults.size_fault.Goals as goal
 
 pub overflow_cast-result : goal.overflow_cast-result

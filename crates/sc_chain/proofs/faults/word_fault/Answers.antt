@@ -4,7 +4,7 @@ use Rattle.sc_theory.specs.Words.{Word}
 use Rattle.sc_theory.specs.Chains.{first, no_word, word}
 use Rattle.sc_chain.specs.Faults.{IsGoodWord}
 use Rattle.sc_chain.proofs.OneFault.{words-le, good_word}
-use Rattle.sc_chain.proofs.Positions.{first-le}
+use Rattle.sc_chain.proofs.Firsts.{first-le}
 use Rattle.sc_chain.proofs.faults.word_fault.Goals as goal
 
 pub overflow_cast-result : goal.overflow_cast-result

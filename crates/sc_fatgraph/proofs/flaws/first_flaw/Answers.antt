@@ -2,13 +2,6 @@ use Rattle.sc_fatgraph.specs.declared.flaws.FlawKind.TheVariants.{Letter, Next, 
 use Rattle.sc_fatgraph.proofs.FlawLaws.{flawless_more, flawless_all, first_flaw_is, fatgraph_is, none_before_letter, none_before_label}
 use Rattle.sc_fatgraph.proofs.flaws.first_flaw.Goals as goal
 
-pub returns-in-Some-first_letter_flaw : goal.returns-in-Some-first_letter_flaw
-returns-in-Some-first_letter_flaw c =
-    let h = c.args.chain.now in
-    let g = c.args.sides.now in
-    let before = none_before_letter h c.args.n g c.in_default.ensures c.in_default-first_mate_flaw.ensures in
-    first_flaw_is h c.args.n g Letter c.in-Some-first_letter_flaw.place before c.in-Some-first_letter_flaw.ensures
-
 pub returns-in-Some-first_next_flaw : goal.returns-in-Some-first_next_flaw
 returns-in-Some-first_next_flaw c =
     let h = c.args.chain.now in

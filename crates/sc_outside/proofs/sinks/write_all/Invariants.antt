@@ -1,4 +1,4 @@
-use Rattle.std.proofs.Common.{◌≡◌, ◌≤◌, ◌-◌, length, take, IsTrue}
+use Rattle.std.proofs.Common.{◌≤◌, ◌-◌, length, take, IsTrue}
 use Rattle.sc_outside.specs.Told.{Took}
 use Rattle.sc_outside.proofs.sinks.write_all.Given as goal
 

@@ -1,4 +1,4 @@
-use Rattle.std.proofs.Common.{arith, ◌≡◌, ◌≤◌, ◌<◌, ◌+◌, ◌-◌, ◌++◌, length, take, drop, vec_len, sym, ◌∙◌}
+use Rattle.std.proofs.Common.{arith, ◌≡◌, ◌≤◌, ◌+◌, ◌++◌, length, take, drop, vec_len, sym}
 use Rattle.sc_outside.proofs.Bytes.{Consumes-next, Delivered-two, front_length, read_length, below_front}
 use Rattle.sc_outside.proofs.sources.read_all.Goals as goal
 

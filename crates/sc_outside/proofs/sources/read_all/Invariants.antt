@@ -1,4 +1,4 @@
-use Rattle.std.proofs.Common.{◌≡◌, ◌≤◌, ◌+◌, length, IsTrue, vec_len}
+use Rattle.std.proofs.Common.{◌≤◌, ◌+◌, IsTrue, vec_len}
 use Rattle.std.specs.Io.KnownBytes.{Consumes}
 use Rattle.sc_outside.proofs.sources.read_all.Given as goal
 

@@ -1,4 +1,4 @@
-use Rattle.std.proofs.Common.{arith, ◌≡◌, ◌≤◌, ◌-◌, length, take, drop, sym, ◌∙◌, ap}
+use Rattle.std.proofs.Common.{arith, ◌≤◌, ◌-◌, length, take, drop, sym, ◌∙◌, ap}
 use Rattle.sc_outside.specs.Stores.{Supply}
 use Rattle.sc_outside.proofs.Bytes.{given_next}
 use Rattle.sc_outside.proofs.calm.CalmSourceSource.read.Goals as goal

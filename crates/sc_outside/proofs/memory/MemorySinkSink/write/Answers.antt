@@ -1,5 +1,4 @@
-use Rattle.std.proofs.Common.{arith, rules, refl, inl, inr}
-use Rattle.std.proofs.lemmas.Grind.{common_steps}
+use Rattle.std.proofs.Common.{rules, refl, inl, inr}
 use Rattle.sc_outside.proofs.memory.MemorySinkSink.write.Goals as goal
 use Rattle.sc_outside.proofs.memory.MemorySinkSink.write.Goals.{then-contains-via-then-contains, then-contains-via-else-contains+then-bytes-gt0, then-self-eq0, else-self-eq0}
 

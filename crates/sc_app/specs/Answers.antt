@@ -1,0 +1,101 @@
+-- What a call of the program may answer.
+use Rattle.std.specs.Prelude.{◌≡◌, ℕ, ◌<◌, ◌≤◌, ◌⊎◌, List, [], length, Option, IfSome}
+use Rattle.sc_outside.specs.Told.{Took, TookPart}
+use Rattle.sc_app.specs.declared.command.Command.{Command}
+use Rattle.sc_app.specs.declared.command.Command.TheVariants.{Surface, Scl}
+use Rattle.sc_app.specs.declared.status.Status.{Status}
+use Rattle.sc_app.specs.declared.status.Status.TheVariants.{Done, Usage, Malformed, Large, ReadFault, WriteFault, Memory, Rejected, Unbuilt}
+use Rattle.sc_app.specs.declared.status.What.TheVariants.{Bytes}
+use Rattle.sc_app.specs.declared.limits.TheConstants.{MAX_SURFACE_BYTES, MAX_CHAIN_BYTES}
+use Rattle.sc_app.specs.Forms.{IsForm}
+use Rattle.sc_app.specs.Surface.{SurfaceResponds}
+use Rattle.sc_app.specs.Scl.{SclResponds}
+
+-- the most bytes that a command reads
+abbrev pub limit_of : Command → ℕ
+limit_of Surface = MAX_SURFACE_BYTES
+limit_of Scl = MAX_CHAIN_BYTES
+
+-- what a command answers to an input that isn't over its limit: the status, and the text for `out`
+abbrev pub Responds : Command → List ℕ → Status → List ℕ → Type 0
+Responds Surface input status text = SurfaceResponds input status text
+Responds Scl input status text = SclResponds input status text
+
+-- what a command answers to an input
+abbrev pub AnswersTo : Command → List ℕ → Status → List ℕ → Type 0
+AnswersTo c input status text =
+    ((limit_of c < length input) × (status ≡ Large Bytes) × (text ≡ []))
+    ⊎ ((length input ≤ limit_of c) × Responds c input status text)
+
+-- what the words ask for, as the answer to an input
+abbrev pub Answers : List (List ℕ) → List ℕ → Status → List ℕ → Type 0
+Answers words input status text = (c : Command) × IsForm c words × AnswersTo c input status text
+
+-- the statuses that the words and the input decide
+abbrev pub IsDecided : Status → Type 0
+IsDecided Done = Unit {0}
+IsDecided (Malformed line kind) = Unit {0}
+IsDecided (Large what) = Unit {0}
+IsDecided (Rejected kind place) = Unit {0}
+IsDecided Unbuilt = Unit {0}
+IsDecided Usage = ⊥
+IsDecided ReadFault = ⊥
+IsDecided WriteFault = ⊥
+IsDecided Memory = ⊥
+
+-- the statuses with which nothing goes to `out`
+abbrev pub IsQuiet : Status → Type 0
+IsQuiet Done = ⊥
+IsQuiet (Malformed line kind) = Unit {0}
+IsQuiet (Large what) = Unit {0}
+IsQuiet Usage = Unit {0}
+IsQuiet ReadFault = Unit {0}
+IsQuiet WriteFault = ⊥
+IsQuiet Memory = Unit {0}
+IsQuiet (Rejected kind place) = ⊥
+IsQuiet Unbuilt = Unit {0}
+
+-- where the input is told, this is its answer, and `out` took the text
+abbrev pub Delivers : Command → Option (List ℕ) → Option (List ℕ) → Option (List ℕ) → Status → Type 0
+Delivers c input old new status =
+    IfSome input (λ bytes. (text : List ℕ) × AnswersTo c bytes status text × Took old new text)
+
+-- where the input is told, `out` took a part of the text of its answer
+abbrev pub Breaks : Command → Option (List ℕ) → Option (List ℕ) → Option (List ℕ) → Type 0
+Breaks c input old new =
+    IfSome input (λ bytes. (status : Status) × (text : List ℕ) × AnswersTo c bytes status text × TookPart old new text)
+
+-- what a command may answer: `input` is what the source had left, `ReadRose` and `WriteRose` that a count of faults rose, and
+-- `old` and `new` what `out` had taken before and has taken now
+abbrev pub MayAnswer : Command → Option (List ℕ) → Type 0 → Type 0 → Option (List ℕ) → Option (List ℕ) → Status → Type 0
+MayAnswer c input ReadRose WriteRose old new Done = Delivers c input old new Done
+MayAnswer c input ReadRose WriteRose old new (Malformed line kind) =
+    Delivers c input old new (Malformed line kind) × Took old new []
+MayAnswer c input ReadRose WriteRose old new (Large what) = Delivers c input old new (Large what) × Took old new []
+MayAnswer c input ReadRose WriteRose old new Usage = ⊥
+MayAnswer c input ReadRose WriteRose old new ReadFault = ReadRose × Took old new []
+MayAnswer c input ReadRose WriteRose old new WriteFault = WriteRose × Breaks c input old new
+MayAnswer c input ReadRose WriteRose old new Memory = Took old new []
+MayAnswer c input ReadRose WriteRose old new (Rejected kind place) = Delivers c input old new (Rejected kind place)
+MayAnswer c input ReadRose WriteRose old new Unbuilt = Delivers c input old new Unbuilt × Took old new []
+
+-- the words are no form
+abbrev pub HasNoForm : List (List ℕ) → Type 0
+HasNoForm words = (c : Command) → IsForm c words → ⊥
+
+-- the words ask for nothing: nothing is read or written
+pub record IsUnasked (words : List (List ℕ)) (left left' : Option (List ℕ)) (faults faults' : ℕ) (old new : Option (List ℕ)) (status : Status) : Type 0 where
+  pub none : HasNoForm words
+  pub usage : status ≡ Usage
+  pub same_left : left' ≡ left
+  pub same_faults : faults' ≡ faults
+  pub nothing : Took old new []
+
+-- the words ask for a command, which may answer so
+abbrev pub IsAsked : List (List ℕ) → Option (List ℕ) → Type 0 → Type 0 → Option (List ℕ) → Option (List ℕ) → Status → Type 0
+IsAsked words input ReadRose WriteRose old new status =
+    (c : Command) × IsForm c words × MayAnswer c input ReadRose WriteRose old new status
+
+-- a prefix of the text was taken, or all of it
+abbrev pub TookUpTo : Option (List ℕ) → Option (List ℕ) → List ℕ → Type 0
+TookUpTo old new text = TookPart old new text ⊎ Took old new text

@@ -1,0 +1,53 @@
+-- The line that goes to the notes for each status.
+use Rattle.std.specs.Prelude.{ℕ, List, [], ◌∷◌, ◌++◌, Option, None, Some, codes}
+use Rattle.sc_whole.specs.Spelling.{natural_spelling}
+use Rattle.sc_chain.specs.declared.fault.Kind.{Kind}
+use Rattle.sc_chain.specs.declared.fault.Kind.TheVariants.{Coefficient, MissingWord, Letter, Extra, NotAscii, Separator, Form, Range, NotReduced, Ended, Rest}
+use Rattle.sc_app.specs.declared.status.Status.{Status}
+use Rattle.sc_app.specs.declared.status.Status.TheVariants.{Done, Usage, Malformed, Large, ReadFault, WriteFault, Memory, Rejected, Unbuilt}
+use Rattle.sc_app.specs.declared.status.What.TheVariants.{Bytes, Words, Positions}
+
+-- a text and LF
+abbrev pub line : List ℕ → List ℕ
+line text = text ++ 10 ∷ []
+
+-- the forms of the command line
+abbrev pub usage : List ℕ
+usage = codes "surface | scl"
+
+-- the word for a kind of fault
+abbrev pub name_of : Kind → List ℕ
+name_of Coefficient = codes "coefficient"
+name_of MissingWord = codes "missing-word"
+name_of Letter = codes "letter"
+name_of Extra = codes "extra"
+name_of NotAscii = codes "not-ascii"
+name_of Separator = codes "separator"
+name_of Form = codes "form"
+name_of Range = codes "range"
+name_of NotReduced = codes "not-reduced"
+name_of Ended = codes "ended"
+name_of Rest = codes "rest"
+
+-- nothing for Done, else one line
+abbrev pub note_of : Status → List ℕ
+note_of Done = []
+note_of Usage = line (codes "scallop: usage: " ++ usage)
+note_of (Malformed at kind) = line (codes "scallop: malformed line " ++ natural_spelling at ++ 32 ∷ name_of kind)
+note_of (Large Bytes) = line (codes "scallop: large bytes")
+note_of (Large (Words count)) = line (codes "scallop: large words " ++ natural_spelling count)
+note_of (Large (Positions count)) = line (codes "scallop: large positions " ++ natural_spelling count)
+note_of ReadFault = line (codes "scallop: read fault")
+note_of WriteFault = line (codes "scallop: write fault")
+note_of Memory = line (codes "scallop: memory")
+note_of (Rejected kind place) = line (codes "scallop: rejected")
+note_of Unbuilt = line (codes "scallop: unbuilt")
+
+-- the digits of a number, where there is one
+abbrev pub number_text : Option ℕ → List ℕ
+number_text None = []
+number_text (Some n) = natural_spelling n
+
+-- a line in its parts
+abbrev pub text_of : List ℕ → Option ℕ → List ℕ → List ℕ
+text_of before number after = before ++ number_text number ++ after

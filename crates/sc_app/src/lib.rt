@@ -1,0 +1,18 @@
+//! The commands of the program, its statuses and notes, and `run`, the one call that reads bytes and writes bytes.
+#![tactic(auto)]
+
+mod answer;
+mod command;
+pub mod limits;
+mod note;
+mod program;
+mod scl;
+mod status;
+mod surface;
+
+pub use command::{Command, command_of};
+pub use program::run;
+pub use status::{Status, What};
+
+#[cfg(test)]
+mod tests;

@@ -1,0 +1,254 @@
+//! The program from bytes to bytes.
+
+use crate::{Command, Status, What, command_of, run};
+use sc_chain::Kind;
+use sc_fatgraph::FlawKind;
+use sc_outside::{MemorySink, MemorySource};
+use std::alloc::{AllocError, Global};
+use std::test::Fail;
+
+const COMMUTATOR: &[u8] =
+    b"scallop surface 1\nwords 1\nword 1 abAB\ncopies 1\nsides 4\nside 0 2 1\nside 1 3 2\nside 2 0 3\nside 3 1 0\nend\n";
+
+const DOUBLE: &[u8] =
+    b"scallop surface 1\nwords 1\nword 1 abAB\ncopies 2\nsides 8\nside 0 2 1\nside 1 3 2\nside 2 0 3\nside 3 1 4\nside 0 6 5\nside 1 7 6\nside 2 4 7\nside 3 5 0\nend\n";
+
+const ANNULUS: &[u8] =
+    b"scallop surface 1\nwords 2\nword 1 a\nword 1 A\ncopies 1\nsides 2\nside 0 1 0\nside 1 0 1\nend\n";
+
+const EMPTY: &[u8] = b"scallop surface 1\nwords 0\ncopies 1\nsides 0\nend\n";
+
+const LOOSE: &[u8] =
+    b"scallop surface 1\nwords 1\nword 1 abAB\ncopies 1\nsides 4\nside 0 0 1\nside 1 3 2\nside 2 0 3\nside 3 1 0\nend\n";
+
+/// How the streams of a call behave: bytes a reading call, reading calls that fail, bytes a writing call, writing calls
+/// that fail.
+#[derive(Clone, Copy)]
+struct Streams<'a> {
+    read_piece: u8,
+    read_fails: &'a [u64],
+    write_piece: u8,
+    write_fails: &'a [u64],
+}
+
+/// The status of a call, what `out` took and what `notes` took.
+fn call(
+    alloc: Global,
+    word: &str,
+    input: &[u8],
+    streams: &Streams,
+) -> Result<(Status, Vec<u8>, Vec<u8>), AllocError> {
+    let mut words = Vec::new(alloc);
+    if !word.is_empty() {
+        words.push(String::from_str(alloc, word)?)?;
+    }
+    let piece = usize::from(streams.read_piece).max(1);
+    let mut source = MemorySource::new(
+        input.to_vec(alloc)?,
+        piece,
+        streams.read_fails.to_vec(alloc)?,
+    );
+    let mut out = MemorySink::new(
+        alloc,
+        1000,
+        usize::from(streams.write_piece),
+        streams.write_fails.to_vec(alloc)?,
+    )?;
+    let mut notes = MemorySink::new(alloc, 1000, 100, Vec::new(alloc))?;
+    let status = run(alloc, &words, &mut source, &mut out, &mut notes);
+    Ok((
+        status,
+        out.taken().to_vec(alloc)?,
+        notes.taken().to_vec(alloc)?,
+    ))
+}
+
+const CALM: Streams<'static> = Streams {
+    read_piece: 200,
+    read_fails: &[],
+    write_piece: 100,
+    write_fails: &[],
+};
+
+#[test]
+fn answers_what_the_commands_say(rt: HostRuntime) -> Result<(), Fail> {
+    let rejected = Status::Rejected {
+        kind: FlawKind::Mate,
+        place: 0,
+    };
+    let ended = Status::Malformed {
+        line: 1,
+        kind: Kind::Ended,
+    };
+    let letter = Status::Malformed {
+        line: 2,
+        kind: Kind::Letter,
+    };
+    let cases = [
+        (
+            "surface",
+            COMMUTATOR,
+            Status::Done,
+            "vertices 1\nedges 2\neuler -1\nfraction 1/2\n",
+            "",
+        ),
+        (
+            "surface",
+            DOUBLE,
+            Status::Done,
+            "vertices 1\nedges 4\neuler -3\nfraction 3/4\n",
+            "",
+        ),
+        (
+            "surface",
+            ANNULUS,
+            Status::Done,
+            "vertices 1\nedges 1\neuler 0\nfraction 0/1\n",
+            "",
+        ),
+        (
+            "surface",
+            EMPTY,
+            Status::Done,
+            "vertices 0\nedges 0\neuler 0\nfraction 0/1\n",
+            "",
+        ),
+        (
+            "surface",
+            LOOSE,
+            rejected,
+            "rejected mate 0\n",
+            "scallop: rejected\n",
+        ),
+        (
+            "surface",
+            b"".as_slice(),
+            ended,
+            "",
+            "scallop: malformed line 1 ended\n",
+        ),
+        ("scl", b"aab".as_slice(), Status::Done, "infinite a 2\n", ""),
+        (
+            "scl",
+            b"a\nb\nAB\n-2 b".as_slice(),
+            Status::Done,
+            "infinite b -2\n",
+            "",
+        ),
+        (
+            "scl",
+            b"abAB\n".as_slice(),
+            Status::Unbuilt,
+            "",
+            "scallop: unbuilt\n",
+        ),
+        (
+            "scl",
+            b"# x\nab?B\n".as_slice(),
+            letter,
+            "",
+            "scallop: malformed line 2 letter\n",
+        ),
+        (
+            "",
+            b"".as_slice(),
+            Status::Usage,
+            "",
+            "scallop: usage: surface | scl\n",
+        ),
+        (
+            "x",
+            b"".as_slice(),
+            Status::Usage,
+            "",
+            "scallop: usage: surface | scl\n",
+        ),
+    ];
+    for (word, input, status, out, notes) in cases {
+        let (answer, written, noted) = call(rt.alloc(), word, input, &CALM)?;
+        assert_eq!(rt; answer, status, "{word}");
+        assert_eq!(rt; written.as_slice(), out.as_bytes(), "{word}");
+        assert_eq!(rt; noted.as_slice(), notes.as_bytes(), "{word}");
+    }
+    Ok(())
+}
+
+#[test]
+fn bears_streams_that_fail(rt: HostRuntime) -> Result<(), Fail> {
+    let bytewise = Streams {
+        read_piece: 1,
+        ..CALM
+    };
+    let unread = Streams {
+        read_fails: &[0],
+        ..CALM
+    };
+    let broken = Streams {
+        write_piece: 10,
+        write_fails: &[1],
+        ..CALM
+    };
+    let cases = [
+        (
+            bytewise,
+            Status::Done,
+            "vertices 1\nedges 2\neuler -1\nfraction 1/2\n",
+            "",
+        ),
+        (unread, Status::ReadFault, "", "scallop: read fault\n"),
+        (
+            broken,
+            Status::WriteFault,
+            "vertices 1",
+            "scallop: write fault\n",
+        ),
+    ];
+    for (streams, status, out, notes) in cases {
+        let (answer, written, noted) = call(rt.alloc(), "surface", COMMUTATOR, &streams)?;
+        assert_eq!(rt; answer, status);
+        assert_eq!(rt; written.as_slice(), out.as_bytes());
+        assert_eq!(rt; noted.as_slice(), notes.as_bytes());
+    }
+    Ok(())
+}
+
+#[test]
+fn refuses_what_is_too_large(rt: HostRuntime) -> Result<(), Fail> {
+    let cases = [
+        (64, Status::Done),
+        (65, Status::Large(What::Positions(65))),
+        (65_536, Status::Large(What::Positions(65_536))),
+        (65_537, Status::Large(What::Bytes)),
+    ];
+    for (letters, status) in cases {
+        let input = vec![in rt.alloc(); b'a'; letters]?;
+        let (answer, _, _) = call(rt.alloc(), "scl", input.as_slice(), &CALM)?;
+        assert_eq!(rt; answer, status, "{letters}");
+    }
+    let mut lines = Vec::new(rt.alloc());
+    for _ in 0..33 {
+        lines.extend_from_slice(b"a\n")?;
+    }
+    let (answer, _, noted) = call(rt.alloc(), "scl", lines.as_slice(), &CALM)?;
+    assert_eq!(rt; answer, Status::Large(What::Words(33)));
+    assert_eq!(rt; noted.as_slice(), b"scallop: large words 33\n".as_slice());
+    Ok(())
+}
+
+#[test]
+fn knows_its_forms_and_codes(rt: HostRuntime) -> Result<(), Fail> {
+    let mut words = Vec::new(rt.alloc());
+    assert_eq!(rt; command_of(&words), None);
+    words.push(String::from_str(rt.alloc(), "surface")?)?;
+    assert_eq!(rt; command_of(&words), Some(Command::Surface));
+    words.push(String::from_str(rt.alloc(), "x")?)?;
+    assert_eq!(rt; command_of(&words), None);
+    for (status, code) in [
+        (Status::Done, 0),
+        (Status::ReadFault, 8),
+        (Status::Unbuilt, 12),
+    ] {
+        assert_eq!(rt; status.code(), code);
+    }
+    Ok(())
+}

@@ -1,0 +1,5 @@
+use Rattle.sc_chain.specs.Balance.{IsTotalSoFar}
+use Rattle.sc_chain.proofs.totals.total_in_words.Given as goal
+
+abbrev pub invariant-loop-entry : goal.invariant-loop-entry
+invariant-loop-entry l = IsTotalSoFar l.words l.generator l.entry-index l.total

@@ -1,0 +1,314 @@
+ghost use Rattle.std.specs.Prelude.{◌<◌, ◌≤◌, ◌^◌, length, IfOk};
+ghost use Rattle.sc_theory.specs.Chains.{positions};
+ghost use Rattle.sc_chain.specs.Faults.{AreGenerators};
+ghost use Rattle.sc_chain.specs.declared.limits.TheConstants.{GENERATORS};
+ghost use Rattle.std.specs.List.{All};
+
+use super::*;
+use std::alloc::{AllocError, Global};
+use std::fmt::Write;
+use std::test::Fail;
+
+// A word of at most 100 letters.
+fn short_word(alloc: Global, text: &[u8]) -> Result<Word, AllocError>
+    ensures generators { IfOk result (λ w. All (λ x. x.number < GENERATORS) w) }
+    ensures short { IfOk result (λ w. length w ≤ 100) }
+{
+    let letters = letters_of(alloc, text)?;
+    if letters.len() > 100 {
+        return Ok(Word::new(alloc));
+    }
+    Ok(Word::from_letters(letters))
+}
+
+// The words that spaces cut, each with its weight.
+fn words_of(alloc: Global, weights: &[u32], text: &[u8]) -> Result<Vec<(u32, Word)>, AllocError>
+    ensures generators { IfOk result (λ words. AreGenerators words.items) }
+    ensures few { IfOk result (λ words. positions words.items < 2 ^ 32) }
+{
+    let mut words = Vec::new(alloc);
+    for (weight, part) in weights.iter().zip(text.split(|byte| *byte == b' ')) {
+        if words.len() < 100 {
+            words.push((*weight, short_word(alloc, part)?))?;
+        }
+    }
+    Ok(words)
+}
+
+// What a text of words is as a chain, or its fault.
+fn chain_of(alloc: Global, weights: &[u32], text: &[u8]) -> Result<Chain, ChainFault> {
+    Chain::of_reduced(alloc, words_of(alloc, weights, text)?)
+}
+
+// The letters as a text spells them.
+fn show_letters(letters: &[Letter], shown: &mut String) -> Result<(), AllocError> {
+    for letter in letters {
+        let first = if letter.inverse { b'A' } else { b'a' };
+        shown.push(char::from(first.wrapping_add(letter.number)))?;
+    }
+    Ok(())
+}
+
+// The lines that are read of a text, or its fault: `LINE:COEFFICIENT:LETTERS` each.
+fn shown_lines(alloc: Global, text: &[u8]) -> Result<String, AllocError>
+    requires { length text.now < 2 ^ 32 }
+{
+    let mut shown = String::new(alloc);
+    match read_lines(alloc, text) {
+        Ok(read) => {
+            for line in &read {
+                let number = line.line;
+                let coefficient = line.coefficient;
+                write!(shown, "{number}:{coefficient}:")?;
+                show_letters(line.word.as_slice(), &mut shown)?;
+                shown.push(' ')?;
+            }
+        }
+        Err(TextFault::Malformed { line, kind }) => write!(shown, "{line} {kind:?}")?,
+        Err(TextFault::Memory) => write!(shown, "memory")?,
+    }
+    Ok(shown)
+}
+
+#[test]
+fn chain_texts_are_read_line_by_line(rt: HostRuntime) -> Result<(), Fail> {
+    let cases: [(&[u8], &str); 41] = [
+        (b"", ""),
+        (b"\n", ""),
+        (b"abAB", "1:1:abAB "),
+        (b"abAB\ncdCD\n", "1:1:abAB 2:1:cdCD "),
+        (b"# x\n\n \t\nab\n", "4:1:ab "),
+        (b"+02 ab", "1:2:ab "),
+        (b"0 ab\n-0 ab\n", "1:0:ab 2:0:ab "),
+        (b"-1000 zZ\n1000 Az\n", "1:-1000:zZ 2:1000:Az "),
+        (b" \t2\t \tab \t\n", "1:2:ab "),
+        (b"ab\r\ncd\r", "1:1:ab 2:1:cd "),
+        (b"\r\n\r", ""),
+        (b"#\xff\xfe ab\nab", "2:1:ab "),
+        (b"\t# 1001 a?\nab", "2:1:ab "),
+        (b"aA\naA", "1:1:aA 2:1:aA "),
+        (b"0001 a\n", "1:1:a "),
+        (b"# x\nab?B", "2 Letter"),
+        (b"2", "1 MissingWord"),
+        (b"1001 ab", "1 Coefficient"),
+        (b"a b", "1 Extra"),
+        (b"a\xffb", "1 NotAscii"),
+        (b"ab \x80", "1 NotAscii"),
+        (b"1 \xc3\xa4", "1 NotAscii"),
+        (b"-", "1 Coefficient"),
+        (b"+", "1 Coefficient"),
+        (b"1a", "1 Coefficient"),
+        (b"1a b", "1 Coefficient"),
+        (b"12345 a", "1 Coefficient"),
+        (b"00001 a", "1 Coefficient"),
+        (b"--1 a", "1 Coefficient"),
+        (b"1001 a?", "1 Coefficient"),
+        (b"0 a?", "1 Letter"),
+        (b"2 a b", "1 Extra"),
+        (b"2 a? b", "1 Letter"),
+        (b"a? b", "1 Letter"),
+        (b"a # x", "1 Extra"),
+        (b"1 # x", "1 Letter"),
+        (b"a\rb", "1 Letter"),
+        (b"ab\r\r\n", "1 Letter"),
+        (b"/", "1 Letter"),
+        (b"ab\n2 2\nab?\n", "2 Letter"),
+        (b"ab\n\n\n2\n2", "4 MissingWord"),
+    ];
+    for (text, expected) in cases {
+        assert!(rt; text.len() < 100);
+        assert_eq!(rt;
+            shown_lines(rt.alloc(), text)?.as_str(),
+            expected,
+            "at {text:?}"
+        );
+    }
+    Ok(())
+}
+
+#[test]
+fn lists_of_words_have_one_first_fault(rt: HostRuntime) -> Result<(), Fail> {
+    let long = [b'a'; 65];
+    let ones = [1; 33];
+    let cases: [(&[u32], &[u8], Option<ChainFault>); 17] = [
+        (&[], b"", None),
+        (&[1, 0], b"abAB a", None),
+        (
+            &[1],
+            b"aA",
+            Some(ChainFault::NotReduced { word: 0, place: 0 }),
+        ),
+        (
+            &[1],
+            b"abA",
+            Some(ChainFault::NotReduced { word: 0, place: 2 }),
+        ),
+        (
+            &[1],
+            b"abBA",
+            Some(ChainFault::NotReduced { word: 0, place: 1 }),
+        ),
+        (&[1, 2], b"ab ", Some(ChainFault::EmptyWord { word: 1 })),
+        (&[1, 1], b" aA", Some(ChainFault::EmptyWord { word: 0 })),
+        (
+            &[1, 1],
+            b"aA ",
+            Some(ChainFault::NotReduced { word: 0, place: 0 }),
+        ),
+        (
+            &ones[..32],
+            b"a a a a a a a a a a a a a a a a a a a a a a a a a a a a a a a a",
+            None,
+        ),
+        (
+            &ones,
+            b"a a a a a a a a a a a a a a a a a a a a a a a a a a a a a a a a a",
+            Some(ChainFault::ManyWords { count: 33 }),
+        ),
+        (&[1], &long[..64], None),
+        (&[1], &long, Some(ChainFault::ManyPositions { count: 65 })),
+        (&[524288], b"ab", None),
+        (
+            &[524288, 1],
+            b"ab c",
+            Some(ChainFault::Heavy { length: 1048577 }),
+        ),
+        (
+            &[u32::MAX],
+            &long[..64],
+            Some(ChainFault::Heavy {
+                length: 274877906880,
+            }),
+        ),
+        (
+            &[u32::MAX, 1],
+            b"ab aA",
+            Some(ChainFault::NotReduced { word: 1, place: 0 }),
+        ),
+        (
+            &[u32::MAX, 1],
+            b"ab a",
+            Some(ChainFault::Heavy { length: 8589934591 }),
+        ),
+    ];
+    for (weights, text, expected) in cases {
+        assert_eq!(rt;
+            chain_of(rt.alloc(), weights, text).err(),
+            expected,
+            "at {weights:?} {text:?}"
+        );
+    }
+    Ok(())
+}
+
+// Each position as `LETTER NEXT PREVIOUS WORD`, and each word as `FIRST WEIGHT LETTERS`.
+fn shown_chain(alloc: Global, chain: &Chain) -> Result<String, AllocError> {
+    let mut shown = String::new(alloc);
+    for i in 0..chain.positions() {
+        show_letters(&[chain.letter(i)], &mut shown)?;
+        let next = chain.succ(i);
+        let previous = chain.prev(i);
+        let word = chain.word_of(i);
+        write!(shown, " {next} {previous} {word}, ")?;
+    }
+    for w in 0..chain.words() {
+        let first = chain.first_of(w);
+        let weight = chain.weight(w);
+        write!(shown, "{first} {weight}, ")?;
+    }
+    for (weight, word) in chain.entries() {
+        write!(shown, "{weight} ")?;
+        show_letters(word.as_slice(), &mut shown)?;
+    }
+    let length = chain.length();
+    write!(shown, ", {length}")?;
+    Ok(shown)
+}
+
+#[test]
+fn positions_go_round_their_words(rt: HostRuntime) -> Result<(), Fail> {
+    let Ok(chain) = chain_of(rt.alloc(), &[2, 7, 1], b"abb C bb") else {
+        return Err(Fail::from("no chain"));
+    };
+    let shown =
+        "a 1 2 0, b 2 0 0, b 0 1 0, C 3 3 1, b 5 5 2, b 4 4 2, 0 2, 3 7, 4 1, 2 abb7 C1 bb, 15";
+    assert_eq!(rt; shown_chain(rt.alloc(), &chain)?.as_str(), shown);
+    assert_eq!(rt;
+        shown_chain(rt.alloc(), &chain.copy(rt.alloc())?)?.as_str(),
+        shown
+    );
+    for (generator, total) in [(0, 2), (1, 6), (2, -7), (3, 0), (200, 0)] {
+        assert_eq!(rt; chain.total(generator), total, "at {generator}");
+    }
+    Ok(())
+}
+
+#[test]
+fn the_first_unbalanced_generator_has_its_total(rt: HostRuntime) -> Result<(), Fail> {
+    let long = [b'a'; 64];
+    let cases: [(&[u32], &[u8], Option<(u8, i64)>); 9] = [
+        (&[], b"", None),
+        (&[1], b"aab", Some((0, 2))),
+        (&[1], b"abAB", None),
+        (&[1, 2], b"aa A", None),
+        (&[1, 1, 1], b"a b AB", None),
+        (&[1, 3], b"abAB cDD", Some((2, 3))),
+        (&[1, 3], b"abAB Dz", Some((3, -3))),
+        (&[0, 5], b"ab zz", Some((25, 10))),
+        (&[1], &long, Some((0, 64))),
+    ];
+    for (weights, text, expected) in cases {
+        match chain_of(rt.alloc(), weights, text) {
+            Ok(chain) => assert_eq!(rt; chain.first_unbalanced(), expected, "at {text:?}"),
+            Err(fault) => assert!(rt; false, "{fault:?} at {text:?}"),
+        }
+    }
+    Ok(())
+}
+
+// The word of a text, made in every way, as it is spelled, and whether it is reduced.
+fn shown_word(alloc: Global, text: &[u8]) -> Result<String, AllocError> {
+    let letters = letters_of(alloc, text)?;
+    let word = Word::from_slice(alloc, letters.as_slice())?;
+    let mut pushed = Word::new(alloc);
+    for letter in word.as_slice() {
+        pushed.push(*letter)?;
+    }
+    let copied = pushed.copy(alloc)?;
+    let mut shown = String::new(alloc);
+    for place in 0..copied.len() {
+        show_letters(&[copied.letter(place)], &mut shown)?;
+    }
+    let reduced = copied.is_reduced();
+    let empty = copied.is_empty();
+    write!(shown, " {reduced} {empty}")?;
+    Ok(shown)
+}
+
+#[test]
+fn words_are_lists_of_letters(rt: HostRuntime) -> Result<(), Fail> {
+    let cases: [(&[u8], &str); 7] = [
+        (b"", " true true"),
+        (b"a", "a true false"),
+        (b"aa", "aa true false"),
+        (b"aA", "aA false false"),
+        (b"abA", "abA false false"),
+        (b"a/b@A[B`{1\xff", "abAB true false"),
+        (b"zbcCBZ", "zbcCBZ false false"),
+    ];
+    for (text, expected) in cases {
+        assert_eq!(rt;
+            shown_word(rt.alloc(), text)?.as_str(),
+            expected,
+            "at {text:?}"
+        );
+    }
+    let a = Letter {
+        number: 0,
+        inverse: false,
+    };
+    assert_eq!(rt; letter_of(b'A'), Some(inverse_of(a)));
+    assert!(rt; is_inverse(a, inverse_of(a)) && !is_inverse(a, a));
+    assert!(rt; are_letters(b"azAZ") && !are_letters(b"a1"));
+    Ok(())
+}

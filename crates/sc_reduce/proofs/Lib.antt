@@ -1,0 +1,5 @@
+pub mod Stack
+pub mod Ends
+pub mod LineLaws
+pub mod Spelled
+pub mod TextLetters

@@ -1,0 +1,210 @@
+-- Laws of letters and words as bytes.
+use Rattle.std.proofs.Common.{◌≡◌, ◌≢◌, ℕ, zero, suc, ◌+◌, ◌-◌, ◌<◌, ◌≤◌, Bool, true, false, not, ◌&&◌, cond, eqb, leb, ltb, List, [], ◌∷◌, ◌++◌, map, length, Option, Some, None, is_some, ℤ, pos, refl, sym, ap, subst, ◌∙◌, arith, inl, inr}
+use Rattle.std.specs.List.{AllByRecursion, list_all, filter_map}
+use Rattle.std.specs.Option.{is_none}
+use Rattle.std.proofs.lemmas.Bool.{cases_Bool, leb-true, le-leb, lt-leb, not-true, not-false, eqb-true, eqb-false, and_cases, and_parts, and_from, and_left, and_right, false≢true, ne_eqb}
+use Rattle.std.proofs.lemmas.List.{length-map, nil_from_length}
+use Rattle.std.proofs.lemmas.Bool.Decides.{nat_tests}
+use Rattle.std.proofs.lemmas.Int.{ints}
+use Rattle.std.proofs.lemmas.Option.{same_Some, none-some}
+use Rattle.sc_theory.specs.declared.Letter.{Letter}
+use Rattle.sc_theory.specs.Words.{Word, IsReduced, delete_cyclically}
+use Rattle.sc_chain.specs.declared.limits.TheConstants.{GENERATORS}
+use Rattle.sc_text.specs.declared.limits.TheConstants.{MAX_WEIGHT}
+use Rattle.sc_chain.specs.declared.fault.Kind.{Kind}
+use Rattle.sc_chain.specs.declared.fault.Kind.TheVariants.{Form, Range, NotReduced}
+use Rattle.sc_text.specs.Lines.{Field}
+use Rattle.sc_chain.specs.Spelling.{letter_byte, letter_of, with_first, word_of}
+use Rattle.sc_text.specs.Words.{spelled, is_reduced}
+use Rattle.sc_text.specs.Faults.{between, word_fault, weighted_word_fault}
+use Rattle.sc_text.proofs.LineLaws.{lacks}
+
+abbrev HasGenerator : Letter → Type 0
+HasGenerator x = x.number < GENERATORS
+
+-- ---- a letter and its byte
+
+abbrev IsByteOf : ℕ → Letter → Type 0
+IsByteOf b x = (letter_byte x ≡ b) × HasGenerator x
+
+pub letter_back : (b : ℕ) (x : Letter) → letter_of b ≡ Some x → IsByteOf b x
+letter_back b x e =
+    elim (cases_Bool (leb 97 b && leb b 122)) [
+      | inl small ↦
+          let ends = and_parts _ _ small in
+          let low : 97 ≤ b = leb-true _ _ ends.0 in
+          let high : b ≤ 122 = leb-true _ _ ends.1 in
+          subst (IsByteOf b) (same_Some _ _ (rw small at e)) (omega arith, omega arith)
+      | inr other ↦
+          elim (cases_Bool (leb 65 b && leb b 90)) [
+            | inl capital ↦
+                let ends = and_parts _ _ capital in
+                let low : 65 ≤ b = leb-true _ _ ends.0 in
+                let high : b ≤ 90 = leb-true _ _ ends.1 in
+                subst (IsByteOf b) (same_Some _ _ (rw (other, capital) at e)) (omega arith, omega arith)
+            | inr neither ↦ absurd (none-some x (rw (other, neither) at e))
+          ]
+    ]
+
+abbrev letter : ℕ → Bool → Letter
+letter n inverse = record { number = n; inverse = inverse }
+
+letter_from : (n : ℕ) (inverse : Bool) → n < GENERATORS → letter_of (letter_byte (letter n inverse)) ≡ Some (letter n inverse)
+letter_from n true h =
+    let other : (leb 97 (65 + n) && leb (65 + n) 122) ≡ false = and_left _ _ (lt-leb 97 (65 + n) (omega arith)) in
+    let capital : (leb 65 (65 + n) && leb (65 + n) 90) ≡ true = and_from _ _ (le-leb 65 (65 + n) (omega arith)) (le-leb (65 + n) 90 (omega arith)) in
+    let same : 65 + n - 65 ≡ n = omega arith in
+    rw (other, capital) (ap (λ (k : ℕ). Some (letter k true)) same)
+letter_from n false h =
+    let small : (leb 97 (97 + n) && leb (97 + n) 122) ≡ true = and_from _ _ (le-leb 97 (97 + n) (omega arith)) (le-leb (97 + n) 122 (omega arith)) in
+    let same : 97 + n - 97 ≡ n = omega arith in
+    rw small (ap (λ (k : ℕ). Some (letter k false)) same)
+
+pub letter_again : (x : Letter) → HasGenerator x → letter_of (letter_byte x) ≡ Some x
+letter_again x h = letter_from x.number x.inverse h
+
+-- ---- a word and its bytes
+
+abbrev are_letters : List ℕ → Bool
+are_letters bs = list_all (λ b. is_some (letter_of b)) bs
+
+pub word_from_letters : (bs : List ℕ) → are_letters bs ≡ true → word_of bs ≡ Some (filter_map letter_of bs)
+word_from_letters [] h = refl
+word_from_letters (b ∷ bs) h =
+    let both = and_parts _ _ h in
+    let rest = word_from_letters bs both.1 in
+    elim (letter_of b) as (λ (o : Option Letter). letter_of b ≡ o → word_of (b ∷ bs) ≡ Some (filter_map letter_of (b ∷ bs))) [
+      | None ↦ λ e. absurd (let some : is_some (letter_of b) ≡ true = both.0 in let none : false ≡ true = rw e at some in false≢true none)
+      | Some x ↦ λ e. rw (e, rest) refl
+    ] refl
+
+with_none : (o : Option Letter) → with_first o None ≡ None
+with_none None = refl
+with_none (Some x) = refl
+
+pub word_from_others : (bs : List ℕ) → are_letters bs ≡ false → word_of bs ≡ None
+word_from_others [] h = absurd (false≢true (sym h))
+word_from_others (b ∷ bs) h =
+    elim (letter_of b) as (λ (o : Option Letter). letter_of b ≡ o → word_of (b ∷ bs) ≡ None) [
+      | None ↦ λ e. rw e refl
+      | Some x ↦ λ e. let others : are_letters bs ≡ false = rw e at h in rw (word_from_others bs others) (with_none (letter_of b))
+    ] refl
+
+pub record IsSpelling (bs : List ℕ) (w : Word) : Type 0 where
+  pub bytes : spelled w ≡ bs
+  pub letters : AllByRecursion HasGenerator w
+
+IsSpelling-cons : (b : ℕ) (bs : List ℕ) (x : Letter) (w : Word) → IsByteOf b x → IsSpelling bs w → IsSpelling (b ∷ bs) (x ∷ w)
+IsSpelling-cons b bs x w first rest = record { bytes = λ i. first.0 i ∷ rest.bytes i; letters = (first.1, rest.letters) }
+
+pub spelled_back : (bs : List ℕ) (w : Word) → word_of bs ≡ Some w → IsSpelling bs w
+spelled_back [] w e = subst (IsSpelling []) (same_Some _ _ e) (record { bytes = refl; letters = tt })
+spelled_back (b ∷ bs) w e =
+    elim (letter_of b) as (λ (o : Option Letter). letter_of b ≡ o → IsSpelling (b ∷ bs) w) [
+      | None ↦ λ first. absurd (none-some w (rw first at e))
+      | Some x ↦ λ first.
+          elim (word_of bs) as (λ (o : Option Word). word_of bs ≡ o → IsSpelling (b ∷ bs) w) [
+            | None ↦ λ rest. absurd (none-some w (rw (first, rest) at e))
+            | Some v ↦ λ rest. subst (IsSpelling (b ∷ bs)) (same_Some _ _ (rw (first, rest) at e)) (IsSpelling-cons b bs x v (letter_back b x first) (spelled_back bs v rest))
+          ] refl
+    ] refl
+
+pub word_again : (w : Word) → AllByRecursion HasGenerator w → word_of (spelled w) ≡ Some w
+word_again [] h = refl
+word_again (x ∷ w) h = rw (letter_again x h.0, word_again w h.1) refl
+
+large_byte : (x : Letter) → 65 ≤ letter_byte x
+large_byte x = large x.number x.inverse
+  where
+    large : (n : ℕ) (inverse : Bool) → 65 ≤ letter_byte (letter n inverse)
+    large n true = omega arith
+    large n false = omega arith
+
+pub lacks-spelled : (c : ℕ) (w : Word) → c < 65 → lacks c (spelled w) ≡ true
+lacks-spelled c [] h = refl
+lacks-spelled c (x ∷ w) h =
+    let other : eqb (letter_byte x) c ≡ false = ne_eqb _ c (λ e. omega (arith, large_byte x)) in
+    rw other (lacks-spelled c w h)
+
+pub length-spelled : (w : Word) → length (spelled w) ≡ length w
+length-spelled w = length-map w letter_byte
+
+-- ---- whether a word is reduced
+
+pub reduced_from : (w : Word) → is_reduced w ≡ true → IsReduced w
+reduced_from w h =
+    elim (delete_cyclically w) as (λ (o : Option Word). delete_cyclically w ≡ o → o ≡ None) [
+      | None ↦ λ e. refl
+      | Some v ↦ λ e. absurd (let none : false ≡ true = rw e at h in false≢true none)
+    ] refl
+
+pub reduced_test : (w : Word) → IsReduced w → is_reduced w ≡ true
+reduced_test w h = rw h refl
+
+pub unreduced_test : (w : Word) → (IsReduced w → ⊥) → is_reduced w ≡ false
+unreduced_test w h =
+    elim (cases_Bool (is_reduced w)) [
+      | inl holds ↦ absurd (h (reduced_from w holds))
+      | inr fails ↦ fails
+    ]
+
+-- ---- the fault of a word with its weight
+
+pub nonempty_word : (room : ℕ) (z : ℤ) (w : Word) → w ≢ [] → weighted_word_fault room (Some z) (Some w) ≡ word_fault room z w
+nonempty_word room z [] h = absurd (h refl)
+nonempty_word room z (x ∷ w) h = refl
+
+-- a field that spells a word: there are bytes, and each spells a letter
+abbrev pub spells_word : Field → Bool
+spells_word bs = not (eqb (length bs) 0) && are_letters bs
+
+pub weighted_form : (room : ℕ) (z : ℤ) (bs : Field) → spells_word bs ≡ false → weighted_word_fault room (Some z) (word_of bs) ≡ Some Form
+weighted_form room z bs h =
+    elim (and_cases (not (eqb (length bs) 0)) (are_letters bs) h) [
+      | inl empty ↦
+          let none : bs ≡ [] = nil_from_length bs (eqb-true _ _ (not-false _ empty)) in
+          subst (λ (f : Field). weighted_word_fault room (Some z) (word_of f) ≡ Some Form) (sym none) refl
+      | inr others ↦ rw (word_from_others bs others) refl
+    ]
+
+abbrev pub letters_of : Field → Word
+letters_of bs = filter_map letter_of bs
+
+pub word_of_letters : (bs : Field) → spells_word bs ≡ true → word_of bs ≡ Some (letters_of bs)
+word_of_letters bs h = word_from_letters bs (and_parts (not (eqb (length bs) 0)) (are_letters bs) h).1
+
+pub letters_nonempty : (bs : Field) → spells_word bs ≡ true → letters_of bs ≢ []
+letters_nonempty bs h none =
+    let some : eqb (length bs) 0 ≡ false = not-true _ (and_parts (not (eqb (length bs) 0)) (are_letters bs) h).0 in
+    let spells = spelled_back bs (letters_of bs) (word_of_letters bs h) in
+    eqb-false _ _ some (ap length (sym spells.bytes ∙ ap spelled none))
+
+pub weighted_is : (room : ℕ) (z : ℤ) (bs : Field) → spells_word bs ≡ true → weighted_word_fault room (Some z) (word_of bs) ≡ word_fault room z (letters_of bs)
+weighted_is room z bs h = rw (word_of_letters bs h) (nonempty_word room z (letters_of bs) (letters_nonempty bs h))
+
+pub length-letters_of : (bs : Field) → spells_word bs ≡ true → length (letters_of bs) ≡ length bs
+length-letters_of bs h =
+    let spells = spelled_back bs (letters_of bs) (word_of_letters bs h) in
+    sym (length-spelled (letters_of bs)) ∙ ap length spells.bytes
+
+-- ---- the parts of the fault of a word with its weight
+
+pub between-natural : (low high n : ℕ) → low ≤ n → n ≤ high → between low high (pos n) ≡ true
+between-natural low high n h k = grind (arith, ints, nat_tests)
+
+pub word_fault_weight : (room : ℕ) (z : ℤ) (w : Word) → between 1 MAX_WEIGHT z ≡ false → word_fault room z w ≡ Some Range
+word_fault_weight room z w h = rw h refl
+
+pub word_fault_room : (room : ℕ) (z : ℤ) (w : Word) → room < length w → word_fault room z w ≡ Some Range
+word_fault_room room z w h =
+    let long : (between 1 MAX_WEIGHT z && leb (length w) room) ≡ false = and_right _ _ (lt-leb (length w) room h) in
+    rw long refl
+
+fitting : (room n : ℕ) (w : Word) → 1 ≤ n → n ≤ MAX_WEIGHT → length w ≤ room → (between 1 MAX_WEIGHT (pos n) && leb (length w) room) ≡ true
+fitting room n w low high h = and_from _ _ (between-natural 1 MAX_WEIGHT n low high) (le-leb (length w) room h)
+
+pub word_fault_unreduced : (room n : ℕ) (w : Word) → 1 ≤ n → n ≤ MAX_WEIGHT → length w ≤ room → (IsReduced w → ⊥) → word_fault room (pos n) w ≡ Some NotReduced
+word_fault_unreduced room n w low high h unreduced = rw (fitting room n w low high h, unreduced_test w unreduced) refl
+
+pub word_fault_none : (room n : ℕ) (w : Word) → 1 ≤ n → n ≤ MAX_WEIGHT → length w ≤ room → IsReduced w → word_fault room (pos n) w ≡ None
+word_fault_none room n w low high h reduced = rw (fitting room n w low high h, reduced_test w reduced) refl

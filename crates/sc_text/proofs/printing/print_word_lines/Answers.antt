@@ -1,0 +1,21 @@
+use Rattle.std.proofs.Common.{◌≡◌, ◌∙◌, ◌+◌, ◌<◌, ◌++◌, List, [], ◌∷◌, map, take, drop, length, get_or, codes, refl, sym, ap, subst, append_assoc, append-nil, arith, rules}
+use Rattle.std.specs.List.{flat_map}
+use Rattle.std.proofs.lemmas.List.{map-append, take-append-drop, take_all}
+use Rattle.std.proofs.lemmas.Result.{on_err_weaker, on_ok_weaker}
+use Rattle.sc_text.specs.Lines.{Line, ended, text_of}
+use Rattle.sc_text.specs.Printing.{AppendsPart, field_of}
+use Rattle.sc_text.specs.Words.{spelled, word_line}
+use Rattle.sc_text.specs.Sides.{side_line}
+use Rattle.sc_text.specs.Surfaces.{heading, ending, count_line, words_lines, sides_lines, surface_text}
+use Rattle.sc_text.proofs.PrintLaws.{nothing_appended, part_after, stopped, pieces_more, lines_at, line_parts, line_field, line_flat, on_err}
+use Rattle.sc_text.proofs.printing.print_word_lines.Goals as goal
+
+pub print_word_line-requires : goal.print_word_line-requires
+print_word_line-requires c = rw (← c.entry-item.is) at (c.requires c.loop-entry.entry-index c.entry-item.result c.loop-entry-test.true)
+
+pub returns-in_err-print_word_line-clause-err : goal.returns-in_err-print_word_line-clause-err
+returns-in_err-print_word_line-clause-err c =
+    let i = c.loop-entry.entry-index in
+    let entries = c.args.entries.now in
+    let whole = subst (λ e. text_of (map word_line entries) ≡ text_of (map word_line (take i entries)) ++ (ended (word_line e) ++ text_of (map word_line (drop (i + 1) entries)))) (sym c.entry-item.is) (lines_at word_line entries i c.entry-item.result c.loop-entry-test.true) in
+    on_err _ (part_after _ c.loop-entry.out.items _ _ _ _ _ c.loop-entry.invariant c.in_err-print_word_line.ensures.err whole)

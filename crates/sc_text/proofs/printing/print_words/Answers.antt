@@ -1,0 +1,22 @@
+use Rattle.std.proofs.Common.{◌≡◌, ◌∙◌, ◌+◌, ◌<◌, ◌++◌, List, [], ◌∷◌, map, take, drop, length, get_or, codes, refl, sym, ap, subst, append_assoc, append-nil, arith, rules}
+use Rattle.std.specs.List.{flat_map}
+use Rattle.std.proofs.lemmas.List.{map-append, take-append-drop, take_all}
+use Rattle.std.proofs.lemmas.Result.{on_err_weaker, on_ok_weaker}
+use Rattle.sc_text.specs.Lines.{Line, ended, text_of}
+use Rattle.sc_text.specs.Printing.{AppendsPart, field_of}
+use Rattle.sc_text.specs.Words.{spelled, word_line}
+use Rattle.sc_text.specs.Sides.{side_line}
+use Rattle.sc_text.specs.Surfaces.{heading, ending, count_line, words_lines, sides_lines, surface_text}
+use Rattle.sc_text.proofs.PrintLaws.{nothing_appended, part_after, stopped, pieces_more, lines_at, line_parts, line_field, line_flat, on_err}
+use Rattle.sc_text.proofs.printing.print_words.Goals as goal
+
+pub returns-in_err-print_count_line-clause-err : goal.returns-in_err-print_count_line-clause-err
+returns-in_err-print_count_line-clause-err c =
+    on_err _ (part_after _ c.args.out.now.items _ [] _ (text_of (map word_line c.args.entries.now)) _ (sym (append-nil c.args.out.now.items)) c.in_err-print_count_line.ensures.err refl)
+
+pub returns-clause-err : goal.returns-clause-err
+returns-clause-err c =
+    on_err_weaker c.print_word_lines.result
+    (λ (part : AppendsPart c.print_count_line.new.out.items c.print_word_lines.new.out.items (text_of (map word_line c.args.entries.now))).
+    part_after _ c.print_count_line.new.out.items _ (ended (count_line (codes "words") (length c.args.entries.now))) _ [] _ c.in_ok-print_count_line.ensures.ok part (ap (λ (t : List _). ended (count_line (codes "words") (length c.args.entries.now)) ++ t) (sym (append-nil (text_of (map word_line c.args.entries.now))))))
+    c.print_word_lines.ensures.err

@@ -1,0 +1,118 @@
+-- The fault of a line, and the first fault of a text.
+use Rattle.std.specs.Prelude.{◌≡◌, ℕ, zero, suc, ◌+◌, ◌-◌, ◌<◌, Bool, true, false, ◌&&◌, ◌==◌, nat_lt, nat_le, if◌then◌else◌, List, [], ◌∷◌, take, drop, length, Option, Some, None, is_some, is_none, ℤ, pos, int_le}
+use Rattle.std.specs.Option.{option_map_or}
+use Rattle.std.specs.Str.{bytes_eq}
+use Rattle.sc_chain.specs.declared.fault.Kind.{Kind}
+use Rattle.sc_chain.specs.declared.fault.Kind.TheVariants.{Form, Range, NotReduced, Ended, Rest}
+use Rattle.sc_chain.specs.declared.fault.TextFault.{TextFault}
+use Rattle.sc_chain.specs.declared.fault.TextFault.TheVariants.{Malformed, Memory}
+use Rattle.sc_text.specs.declared.limits.TheConstants.{MAX_WEIGHT}
+use Rattle.sc_text.specs.Lines.{Line, Field, parts, fields, number_of}
+use Rattle.sc_theory.specs.Words.{Word}
+use Rattle.sc_chain.specs.Spelling.{word_of}
+use Rattle.sc_text.specs.Words.{is_reduced}
+
+-- a range of whole numbers, as the test whether a number is in it
+abbrev pub NumberRange : Type 0
+NumberRange = ℤ → Bool
+
+abbrev pub between : ℕ → ℕ → NumberRange
+between low high z = int_le (pos low) z && int_le z (pos high)
+
+-- whether the fields are as many numbers as there are ranges
+abbrev pub are_numbers : List NumberRange → List Field → Bool
+are_numbers [] [] = true
+are_numbers [] (f ∷ fs) = false
+are_numbers (r ∷ rs) [] = false
+are_numbers (r ∷ rs) (f ∷ fs) = is_some (number_of f) && are_numbers rs fs
+
+-- whether each field is a number in its range
+abbrev pub are_in_range : List NumberRange → List Field → Bool
+are_in_range [] fs = true
+are_in_range (r ∷ rs) [] = false
+are_in_range (r ∷ rs) (f ∷ fs) = option_map_or r (number_of f) false && are_in_range rs fs
+
+-- the fault of fields that are due to be numbers in these ranges
+abbrev pub numbers_fault : List NumberRange → List Field → Option Kind
+numbers_fault ranges fs =
+    if are_numbers ranges fs then (if are_in_range ranges fs then None else Some Range) else Some Form
+
+-- the fault of a line that is due word by word
+abbrev pub literal_fault : Line → Line → Option Kind
+literal_fault due line = if bytes_eq line due then None else Some Form
+
+-- whether a name is the first of the fields
+abbrev pub is_named : List ℕ → List Field → Bool
+is_named name [] = false
+is_named name (f ∷ fs) = bytes_eq f name
+
+-- the fault of a line that is due to be a name and other fields
+abbrev pub named_fault : List ℕ → (List Field → Option Kind) → Line → Option Kind
+named_fault name others line = if is_named name (fields line) then others (drop 1 (fields line)) else Some Form
+
+-- the fault of a line that is due to be a name and numbers in these ranges
+abbrev pub numbers_line_fault : List ℕ → List NumberRange → Line → Option Kind
+numbers_line_fault name ranges line = named_fault name (numbers_fault ranges) line
+
+-- the fault of a weight and a word that is to have at most `room` letters
+abbrev pub word_fault : ℕ → ℤ → Word → Option Kind
+word_fault room weight w =
+    if between 1 MAX_WEIGHT weight && nat_le (length w) room then (if is_reduced w then None else Some NotReduced)
+    else Some Range
+
+abbrev pub weighted_word_fault : ℕ → Option ℤ → Option Word → Option Kind
+weighted_word_fault room (Some weight) (Some []) = Some Form
+weighted_word_fault room (Some weight) (Some (x ∷ w)) = word_fault room weight (x ∷ w)
+weighted_word_fault room (Some weight) None = Some Form
+weighted_word_fault room None w = Some Form
+
+abbrev pub word_fields_fault : ℕ → List Field → Option Kind
+word_fields_fault room [] = Some Form
+word_fields_fault room (weight ∷ []) = Some Form
+word_fields_fault room (weight ∷ letters ∷ []) = weighted_word_fault room (number_of weight) (word_of letters)
+word_fields_fault room (weight ∷ letters ∷ f ∷ fs) = Some Form
+
+-- ---- a text by its lines
+
+-- a table of lines: how often each row comes, and the fault of a line of it
+abbrev pub Table : Type 0
+Table = List (ℕ × (Line → Option Kind))
+
+-- the row of the line number i, counted from 0
+abbrev pub row_at : Table → ℕ → Option (Line → Option Kind)
+row_at [] i = None
+row_at (row ∷ rows) i = if nat_lt i row.0 then Some row.1 else row_at rows (i - row.0)
+
+-- the table of a text may go by the lines that stand before a line, as these tell how many words and sides come
+abbrev pub due_after : (List Line → Table) → List Line → Option (Line → Option Kind)
+due_after table before = row_at (table before) (length before)
+
+-- the fault of a line after these lines
+abbrev pub line_fault : (List Line → Table) → List Line → Line → Option Kind
+line_fault table before line = option_map_or (λ fault. fault line) (due_after table before) (Some Rest)
+
+-- the fault at the first of the parts that come after these lines; the last part of a text isn't ended
+abbrev pub part_fault : (List Line → Table) → List Line → List Line → Option Kind
+part_fault table before [] = None
+part_fault table before (line ∷ next ∷ more) = line_fault table before line
+part_fault table before (rest ∷ []) =
+    if is_some (due_after table before) then Some Ended else (if length rest == 0 then None else Some Rest)
+
+-- the fault of the line number i of a text, counted from 1
+abbrev pub fault_at : (List Line → Table) → List ℕ → ℕ → Option Kind
+fault_at table text zero = None
+fault_at table text (suc i) = part_fault table (take i (parts text)) (drop i (parts text))
+
+-- the first line of a text that has a fault, and its kind
+pub record IsFirstFault (table : List Line → Table) (text : List ℕ) (line : ℕ) (kind : Kind) : Type 0 where
+  pub here : fault_at table text line ≡ Some kind
+  pub least : (i : ℕ) → i < line → fault_at table text i ≡ None
+
+-- every line of a text is as it is due
+abbrev pub IsFaultless : (List Line → Table) → List ℕ → Type 0
+IsFaultless table text = (i : ℕ) → fault_at table text i ≡ None
+
+-- a text that isn't read has this first fault, unless memory ran out
+abbrev pub IsFaultOf : (List Line → Table) → List ℕ → TextFault → Type 0
+IsFaultOf table text (Malformed line kind) = IsFirstFault table text line kind
+IsFaultOf table text Memory = Unit {0}

@@ -1,0 +1,3 @@
+pub mod Levels
+pub mod Evidence
+pub mod Laws
