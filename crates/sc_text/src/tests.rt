@@ -6,14 +6,11 @@ const TEXT_A: &[u8] =
     b"scallop surface 1\nwords 1\nword 1 abAB\ncopies 1\nsides 4\nside 0 2 1\nside 1 3 2\nside 2 0 3\nside 3 1 0\nend\n";
 
 #[test]
-fn text_a_is_read_and_printed(rt: HostRuntime) -> Result<(), Fail> {
+fn text_a_is_read(rt: HostRuntime) -> Result<(), Fail> {
     let surface = read_surface_text(rt.alloc(), TEXT_A)?;
     assert_eq!(rt; surface.words.len(), 1);
     assert_eq!(rt; surface.copies, 1);
     assert_eq!(rt; surface.sides.len(), 4);
-    let mut out = Vec::new(rt.alloc());
-    print_surface_text(&surface.words, surface.copies, &surface.sides, &mut out)?;
-    assert_eq!(rt; out.as_slice(), TEXT_A);
     Ok(())
 }
 

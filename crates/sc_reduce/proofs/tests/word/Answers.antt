@@ -6,4 +6,4 @@ use Rattle.sc_reduce.proofs.tests.word.Goals as goal
 
 pub returns : goal.returns
 returns c =
-    subst (All IsGenerator) (sym (c.from_letters.ensures ∙ c.in_ok-letters_of.ensures)) (generators_of_text c.as_bytes.result.now)
+    subst (All IsGenerator) (sym (c.from_letters.ensures ∙ c.in_ok-letters_of.ensures.letters)) (generators_of_text c.as_bytes.result.now)
