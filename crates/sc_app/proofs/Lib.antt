@@ -1,3 +1,4 @@
 pub mod Taken
 pub mod Serving
 pub mod Reports
+pub mod OneAnswer

@@ -99,3 +99,15 @@ IsAsked words input ReadRose WriteRose old new status =
 -- a prefix of the text was taken, or all of it
 abbrev pub TookUpTo : Option (List ℕ) → Option (List ℕ) → List ℕ → Type 0
 TookUpTo old new text = TookPart old new text ⊎ Took old new text
+
+-- the statuses that come where a stream fails or memory runs out
+abbrev pub IsExcused : Status → Type 0
+IsExcused Done = ⊥
+IsExcused (Malformed line kind) = ⊥
+IsExcused (Large what) = ⊥
+IsExcused (Rejected kind place) = ⊥
+IsExcused Unbuilt = ⊥
+IsExcused Usage = ⊥
+IsExcused ReadFault = Unit {0}
+IsExcused WriteFault = Unit {0}
+IsExcused Memory = Unit {0}

@@ -11,7 +11,7 @@ mod status;
 mod surface;
 
 pub use command::{Command, command_of};
-pub use program::run;
+pub use program::{an_input_has_one_answer, run};
 pub use status::{Status, What};
 
 #[cfg(test)]

@@ -5,7 +5,7 @@ ghost use Rattle.sc_outside.specs.Faults.{Rose};
 ghost use Rattle.sc_outside.specs.Told.{Took, TookPart};
 ghost use Rattle.sc_app.specs.Forms.{bytes_of};
 ghost use Rattle.sc_app.specs.Notes.{note_of};
-ghost use Rattle.sc_app.specs.Answers.{limit_of, Responds, Answers, HasNoForm, IsDecided, IsQuiet, MayAnswer, IsAsked, IsUnasked, TookUpTo};
+ghost use Rattle.sc_app.specs.Answers.{limit_of, Responds, Answers, HasNoForm, IsDecided, IsQuiet, MayAnswer, IsAsked, IsUnasked, IsExcused, TookUpTo};
 ghost use Rattle.sc_app.specs.declared.status.Status.{Status as AnyStatus};
 
 use crate::answer::Answer;
@@ -108,6 +108,9 @@ pub fn run<S: Source, O: Sink, E: Sink>(
     // Where the source tells its bytes, every other status but Memory is the answer to them, and `out` took its text.
     ensures answered { IsDecided result → IfSome (S.left source.old) (λ input. (text : List ℕ)
         × Answers (bytes_of words.now.items) input result text × Took (O.taken out.old) (O.taken out.new) text) }
+    // The answer to the input is what comes, unless a stream fails or memory runs out. (There is one: `an_input_has_one_answer`.)
+    ensures complete { IfSome (S.left source.old) (λ input. (status : AnyStatus) (text : List ℕ)
+        → Answers (bytes_of words.now.items) input status text → (result ≡ status) ⊎ IsExcused result) }
     // After a fault of `out` it has taken a part of the text of the answer.
     ensures broken { result ≡ Status.WriteFault → IfSome (S.left source.old) (λ input. (status : AnyStatus) × (text : List ℕ)
         × Answers (bytes_of words.now.items) input status text × TookPart (O.taken out.old) (O.taken out.new) text) }
@@ -123,3 +126,9 @@ pub fn run<S: Source, O: Sink, E: Sink>(
     let _ = write_note(&status, notes);
     status
 }
+
+/// No input has two answers: the same words and the same input give one status.
+pub fn an_input_has_one_answer()
+    ensures { (words : List (List ℕ)) (input text other : List ℕ) (status elsewise : AnyStatus) → Answers words input status text
+        → Answers words input elsewise other → status ≡ elsewise }
+{}
