@@ -8,3 +8,5 @@ pub mod CoefficientLaws
 pub mod DecisionLaws
 pub mod ReadingLaws
 pub mod WordLists
+pub mod PairLists
+pub mod PairLaws
