@@ -10,3 +10,5 @@ pub mod ReadingLaws
 pub mod WordLists
 pub mod PairLists
 pub mod PairLaws
+pub mod PairTables
+pub mod PolygonLaws
