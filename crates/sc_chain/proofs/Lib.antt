@@ -12,3 +12,4 @@ pub mod PairLists
 pub mod PairLaws
 pub mod PairTables
 pub mod PolygonLaws
+pub mod Marks

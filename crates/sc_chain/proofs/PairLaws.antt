@@ -95,9 +95,9 @@ pub row : (ps : List (ℕ × ℕ)) (p q : ℕ) → Row ps p q
 row ps p q = elim (cases_lt (place_of ps p q) (length ps)) [
   | inl h ↦ plus h (row-plus ps p q h)
   | inr h ↦ elim (cases_lt (place_of ps q p) (length ps)) [
-      | inl k ↦ minus h k (row-minus ps p q h k)
-      | inr k ↦ none h k (row-none ps p q h k)
-    ]
+    | inl k ↦ minus h k (row-minus ps p q h k)
+    | inr k ↦ none h k (row-none ps p q h k)
+  ]
 ]
 
 some_is : (x y : ℕ × Sign) → Some x ≡ Some y → x ≡ y
@@ -106,9 +106,9 @@ some_is x y e = cc
 not_own_inverse : (x : Letter) → x ≡ inverse_letter x → ⊥
 not_own_inverse x e = other_sign x.inverse (ap (λ (y : Letter). y.inverse) e)
   where
-  other_sign : (b : Bool) → b ≡ not b → ⊥
-  other_sign true h = cc
-  other_sign false h = cc
+    other_sign : (b : Bool) → b ≡ not b → ⊥
+    other_sign true h = cc
+    other_sign false h = cc
 
 not_plus : (o : Option (ℕ × Sign)) (j k : ℕ) → o ≡ Some (j, Minus) → o ≡ Some (k, Plus) → ⊥
 not_plus o j k e f = let signs : Minus ≡ Plus = ap (λ (x : ℕ × Sign). x.1) (some_is (j, Minus) (k, Plus) (sym e ∙ f)) in cc

@@ -1,7 +1,8 @@
 -- The tests of steps, closed walks and polygons tell these; and what a polygon keeps.
 use Rattle.std.proofs.Common.{◌≡◌, ◌≢◌, ℕ, zero, suc, ◌<◌, ◌≤◌, Bool, true, false, not, ◌&&◌, eqb, ltb, List, [], ◌∷◌, length, get_or, ◌↔◌, IsTrue, inl, inr, arith, refl, sym, ap, ◌∙◌}
+use Rattle.std.specs.Bool.{OnTrue}
 use Rattle.std.specs.List.{AllByRecursion, list_all}
-use Rattle.std.proofs.lemmas.Bool.{cases_lt, and_parts, and_from, not-true, eqb-true, eqb-false, eq-eqb, ne_eqb, ltb-true, lt-ltb, false≢true}
+use Rattle.std.proofs.lemmas.Bool.{cases_lt, and_parts, and_from, not-true, eqb-true, eqb-false, eq-eqb, ne_eqb, ltb-true, lt-ltb, false≢true, OnTrue_from, OnTrue_at}
 use Rattle.sc_algebra.proofs.Cycles.{pigeonhole}
 use Rattle.sc_theory.specs.Words.{inverse_letter, is_inverse}
 use Rattle.sc_theory.specs.Chains.{Chain, positions, letter, succ}
@@ -135,7 +136,20 @@ few_without_repeat walk n simple below = elim (cases_lt n (length walk)) [
   | inr few ↦ few
 ]
 
-pub small_walk : (c : Chain) (walk : List ℕ) → positions c ≤ MAX_POSITIONS → IsPolygon c walk → IsSmallWalk walk
-small_walk c walk few p =
-    let below : (k : ℕ) → k < length walk → get_or walk k 0 < MAX_POSITIONS = λ k h. omega (arith, walk_inside c walk p.closed k h) in
+pub small_walk : (c : Chain) (walk : List ℕ) → ((k : ℕ) → k < length walk → get_or walk k 0 < MAX_POSITIONS) → IsPolygon c walk → IsSmallWalk walk
+small_walk c walk below p =
     record { least = p.least; simple = p.simple; few = few_without_repeat walk MAX_POSITIONS p.simple below; in_range = below }
+
+pub closed_inside : (c : Chain) (walk : List ℕ) (b : Bool) → positions c ≤ MAX_POSITIONS → b ≡ is_closed_walk c walk →
+    OnTrue b ((k : ℕ) → k < length walk → get_or walk k 0 < MAX_POSITIONS)
+closed_inside c walk b few e =
+    OnTrue_from b ((k : ℕ) → k < length walk → get_or walk k 0 < MAX_POSITIONS) (λ h k inside. omega (arith, walk_inside c walk (closed_from c walk (sym e ∙ h)) k inside))
+
+-- what an answer of the test says
+pub polygon_if : (c : Chain) (walk : List ℕ) (b : Bool) → b ≡ is_polygon c walk → (b ≡ true) ↔ IsPolygon c walk
+polygon_if c walk b e = ((λ h. polygon_from c walk (sym e ∙ h)), (λ p. e ∙ polygon_test c walk p))
+
+pub small_if : (c : Chain) (walk : List ℕ) (b closed : Bool) → closed ≡ true → OnTrue closed ((k : ℕ) → k < length walk → get_or walk k 0 < MAX_POSITIONS) → b ≡ is_polygon c walk →
+    OnTrue b (IsSmallWalk walk)
+small_if c walk b closed h below e =
+    OnTrue_from b (IsSmallWalk walk) (λ t. small_walk c walk (OnTrue_at h below) (polygon_from c walk (sym e ∙ t)))

@@ -7,5 +7,8 @@ use Rattle.sc_chain.proofs.pairs.Pairs.count.Goals as goal
 pub returns-clause-few : goal.returns-clause-few
 returns-clause-few c =
     rw (← c.self.view_is)
-    (omega (arith, few_pairs c.self.inside.pairs.items c.self.inside.positions c.self.invariant.pairs,
-    mul-le-mul {n₁ = c.self.inside.positions} {m₁ = c.self.inside.positions} {n₂ = MAX_POSITIONS} {m₂ = MAX_POSITIONS} c.self.invariant.few c.self.invariant.few))
+    (omega (
+      arith,
+      few_pairs c.self.inside.pairs.items c.self.inside.positions c.self.invariant.pairs,
+      mul-le-mul {n₁ = c.self.inside.positions} {m₁ = c.self.inside.positions} {n₂ = MAX_POSITIONS} {m₂ = MAX_POSITIONS} c.self.invariant.few c.self.invariant.few,
+    ))
