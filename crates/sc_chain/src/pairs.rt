@@ -1,6 +1,6 @@
 //! The inverse pairs of a chain: the pairs of positions with inverse letters, by the lesser position, then the greater.
 
-ghost use Rattle.std.specs.Prelude.{◌≡◌, ◌<◌, ◌≤◌, ◌*◌, ◌+◌, ◌++◌, ◌↔◌, length, map, filter, get_or, IfOk, OnOk, IfSome, IsSome};
+ghost use Rattle.std.specs.Prelude.{◌≡◌, ◌<◌, ◌≤◌, ◌*◌, ◌++◌, ◌↔◌, length, map, filter, get_or, IfOk, OnOk, IfSome, IsSome};
 ghost use Rattle.sc_theory.specs.Words.{inverse_letter};
 ghost use Rattle.sc_theory.specs.Chains.{Chain as AnyChain, positions, letter};
 ghost use Rattle.sc_theory.specs.Prices.{pairs, is_pair, all_positions};
