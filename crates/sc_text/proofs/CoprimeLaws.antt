@@ -41,10 +41,10 @@ coprime_from_test a b some h =
     elim (cases_eq g 1) [
       | inl one ↦ subst (IsGcd a b) one gcd.1
       | inr other ↦ absurd (
-        let low : 0 < g = IsGcd-pos b a g some (IsGcd-swap a b g gcd.1) in
-        let at : get_or (range_with_len 2 (b - 1)) (g - 2) 0 ≡ 2 + (g - 2) = get_or-range_with_len 2 (b - 1) (g - 2) 0 (omega arith) in
-        let is : get_or (range_with_len 2 (b - 1)) (g - 2) 0 ≡ g = omega arith in
-        let apart : separates a b (get_or (range_with_len 2 (b - 1)) (g - 2) 0) ≡ true =
-        AllPass-from_list_all (separates a b) (range_with_len 2 (b - 1)) h (g - 2) 0 (omega (arith, length-range_with_len 2 (b - 1))) in
-        false≢true (sym (not_both a b g gcd.1.0 gcd.1.1) ∙ ap (separates a b) (sym is) ∙ apart))
+          let low : 0 < g = IsGcd-pos b a g some (IsGcd-swap a b g gcd.1) in
+          let at : get_or (range_with_len 2 (b - 1)) (g - 2) 0 ≡ 2 + (g - 2) = get_or-range_with_len 2 (b - 1) (g - 2) 0 (omega arith) in
+          let is : get_or (range_with_len 2 (b - 1)) (g - 2) 0 ≡ g = omega arith in
+          let apart : separates a b (get_or (range_with_len 2 (b - 1)) (g - 2) 0) ≡ true =
+          AllPass-from_list_all (separates a b) (range_with_len 2 (b - 1)) h (g - 2) 0 (omega (arith, length-range_with_len 2 (b - 1))) in
+          false≢true (sym (not_both a b g gcd.1.0 gcd.1.1) ∙ ap (separates a b) (sym is) ∙ apart))
     ]

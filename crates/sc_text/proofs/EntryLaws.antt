@@ -1,5 +1,5 @@
 -- Laws of the entries in a row of a distance table.
-use Rattle.std.proofs.Common.{◌≡◌, ◌≢◌, ℕ, zero, suc, ◌+◌, Bool, true, false, ◌&&◌, cond, eqb, List, [], ◌∷◌, map, length, Option, Some, None, is_some, codes, ℤ, pos, neg_ℤ, ◌≤ℤ◌, refl, sym, ap, subst, ◌∙◌, arith, inl, inr}
+use Rattle.std.proofs.Common.{◌≡◌, ◌≢◌, ℕ, zero, suc, ◌+◌, Bool, true, false, ◌&&◌, cond, eqb, List, [], ◌∷◌, ◌++◌, map, length, Option, Some, None, is_some, codes, ℤ, pos, neg_ℤ, ◌≤ℤ◌, refl, sym, ap, subst, ◌∙◌, arith, inl, inr}
 use Rattle.std.specs.List.{list_all, AllByRecursion}
 use Rattle.std.specs.Option.{option_map_or}
 use Rattle.std.specs.Str.{bytes_eq}
@@ -93,3 +93,19 @@ entries_from_tests (f ∷ fs) h k =
       are = λ i. first.is i ∷ rest.are i;
       in_range = (first.in_range, rest.in_range);
     }
+
+-- these fields are those of the entries of a row, in range
+pub record AreRead (fs : List Field) (row : List Entry) : Type 0 where
+  pub are : fs ≡ map entry_field row
+  pub in_range : AllByRecursion IsEntryInRange row
+
+-- ---- the fields that a reader has passed, and their entries
+
+-- so many of the fields are entries, and are in range or not; where all are, the row has them
+pub record HasEntries (all left : List Field) (count : ℕ) (in_range : Bool) (row : List Entry) : Type 0 where
+  pub passed : List Field
+  pub cut : all ≡ passed ++ left
+  pub many : length passed ≡ count
+  pub are_entries : list_all is_entry passed ≡ true
+  pub are_in_range : list_all is_entry_in_range passed ≡ in_range
+  pub row_is : in_range ≡ true → AreRead passed row

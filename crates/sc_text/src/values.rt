@@ -28,9 +28,13 @@ fn fraction(field: &[u8]) -> Result<Frac, Kind>
     let den = number_of(den)?;
     let num = i128::from(in_range(num, 0, MAX_VALUE)?);
     let den = i128::from(in_range(den, 1, MAX_VALUE)?);
-    match Frac::new(num, den) {
-        Ok(value) if value.den() == den => Ok(value),
-        _ => Err(Kind::Range),
+    let Ok(value) = Frac::new(num, den) else {
+        return Err(Kind::Range);
+    };
+    if value.den() == den {
+        Ok(value)
+    } else {
+        Err(Kind::Range)
     }
 }
 
