@@ -49,6 +49,12 @@ split_none p xs e =
 pub split_some : (p : ℕ → Bool) (xs : List ℕ) → slice_split p xs ≢ []
 split_some p xs e = absurd (omega (arith, length-slice_split p xs, ap length e))
 
+-- ---- lists
+
+pub All_push : {A : Type 0} (P : A → Type 0) (xs : List A) (x : A) → AllByRecursion P xs → P x → AllByRecursion P (xs ++ x ∷ [])
+All_push P [] x h p = (p, tt)
+All_push P (y ∷ xs) x h p = (h.0, All_push P xs x h.1 p)
+
 -- ---- joining
 
 -- whether a list doesn't have a byte

@@ -28,7 +28,7 @@ use Rattle.sc_text.specs.Sides.{side_line, IsSideInRange}
 use Rattle.sc_text.specs.Faults.{NumberRange, between, are_numbers, are_in_range, numbers_fault, literal_fault, is_named, named_fault, numbers_line_fault, word_fault, weighted_word_fault, word_fields_fault, due_after, line_fault, part_fault, fault_at, IsFaultless}
 use Rattle.sc_text.specs.Surfaces.{heading, ending, count_line, words_lines, surface_lines, surface_text, surface_table, word_row, side_row, IsChainInRange, IsSurfaceInRange}
 use Rattle.sc_text.specs.Readers.{words_so_far, sides_so_far, lines_at, IsStage, IsReadingAt, AreCopies}
-use Rattle.sc_text.proofs.LineLaws.{number_of_is, line_from_fields, text_from_parts, split_some}
+use Rattle.sc_text.proofs.LineLaws.{All_push, number_of_is, line_from_fields, text_from_parts, split_some}
 use Rattle.sc_text.proofs.WordLaws.{spelled_back, reduced_from}
 use Rattle.sc_text.proofs.SurfaceLaws.{start_due, headed_due, words_due, copies_due, side_count_due, side_due, end_due, nothing_due, row_fault, fault_when_due, fault_when_done, due_at, ended_when_due, rest_when_done}
 use Rattle.sc_text.proofs.FaultLaws.{HasRead, read_nothing, read_more, fault_at_part, ended_part}
@@ -223,10 +223,6 @@ pub record Step (before : List Line) (line : Line) : Type 0 where
   pub now : Reading
   pub keeps : Keeps now
   pub lines : lines_of now ≡ before ++ line ∷ []
-
-All_push : {A : Type 0} (P : A → Type 0) (xs : List A) (x : A) → AllByRecursion P xs → P x → AllByRecursion P (xs ++ x ∷ [])
-All_push P [] x h p = (p, tt)
-All_push P (y ∷ xs) x h p = (h.0, All_push P xs x h.1 p)
 
 good_row : (before : List Line) (line : Line) (row : Line → Option Kind) → due_after surface_table before ≡ Some row → line_fault surface_table before line ≡ None → row line ≡ None
 good_row before line row due good = sym (fault_when_due surface_table before line row due) ∙ good
