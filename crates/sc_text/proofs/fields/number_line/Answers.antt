@@ -1,4 +1,4 @@
-use Rattle.std.proofs.Common.{◌≡◌, ◌∙◌, ℕ, ℤ, ap, sym, List, [], ◌∷◌, Some, pos, ◌≤ℤ◌}
+use Rattle.std.proofs.Common.{◌≡◌, to_z-of_z, ◌∙◌, ℕ, ℤ, ap, sym, List, [], ◌∷◌, Some, pos, ◌≤ℤ◌}
 use Rattle.std.proofs.lemmas.Result.{IfOk-weaker}
 use Rattle.sc_whole.specs.Spelling.{spelling}
 use Rattle.sc_text.specs.Lines.{Field, fields}
@@ -12,4 +12,4 @@ returns-clause-ok c =
     let number = taken_is _ _ _ z c.in_ok-number.ensures.ok h.0 in
     let all : fields c.args.line.now ≡ c.args.name.now ∷ spelling z ∷ [] = cc (c.of-fields.ensures, c.in_ok-name.ensures.ok, number, c.in_ok-end.ensures.ok) in
     (line_from_fields c.args.line.now _ all, h.1, h.2))
-    c.within.ensures.ok
+    (simp (to_z-of_z c.ranges.low, to_z-of_z c.ranges.high) at c.within.ensures.ok)
