@@ -1,11 +1,11 @@
 -- Laws of the entries in a row of a distance table.
-use Rattle.std.proofs.Common.{◌≡◌, ◌≢◌, ℕ, zero, suc, ◌+◌, Bool, true, false, ◌&&◌, cond, eqb, List, [], ◌∷◌, ◌++◌, map, length, Option, Some, None, is_some, codes, ℤ, pos, neg_ℤ, ◌≤ℤ◌, ◌<◌, refl, sym, ap, subst, append_assoc, append-nil, ◌∙◌, arith, inl, inr}
+use Rattle.std.proofs.Common.{◌≡◌, ℕ, ◌+◌, Bool, true, false, ◌&&◌, List, [], ◌∷◌, ◌++◌, map, length, Option, Some, None, is_some, codes, ℤ, neg_ℤ, refl, sym, ap, append_assoc, ◌∙◌, arith, inl, inr}
 use Rattle.std.specs.List.{list_all, AllByRecursion}
 use Rattle.std.specs.Option.{option_map_or}
 use Rattle.std.specs.Str.{bytes_eq}
-use Rattle.std.proofs.lemmas.Bool.{cases_Bool, and_parts, and_from, and_right, ne_eqb, eq-eqb, false≢true}
+use Rattle.std.proofs.lemmas.Bool.{cases_Bool, and_parts, and_from, false≢true}
 use Rattle.std.proofs.Math.Bool.{and-true, and-false}
-use Rattle.std.proofs.lemmas.List.{length-append, length-map, length_push, map_push, nil_from_length}
+use Rattle.std.proofs.lemmas.List.{length_push, map_push}
 use Rattle.std.proofs.lemmas.List.Folds.{list_all-append}
 use Rattle.std.proofs.lemmas.Option.{none-some}
 use Rattle.std.proofs.lemmas.Slice.Eq.{bytes_eq-Decides}
@@ -14,7 +14,7 @@ use Rattle.sc_chain.specs.declared.fault.Kind.TheVariants.{Form, Range}
 use Rattle.sc_text.specs.declared.limits.TheConstants.{MAX_ENTRY}
 use Rattle.sc_text.specs.Lines.{Field, number_of}
 use Rattle.sc_text.specs.PriceLines.{of_size}
-use Rattle.sc_text.specs.TableLines.{Entry, entry_field, is_entry, is_entry_in_range, entry_of, entry_fault, entries_fault, IsEntryInRange, IsRowInRange}
+use Rattle.sc_text.specs.TableLines.{Entry, entry_field, is_entry, is_entry_in_range, entry_of, entry_fault, IsEntryInRange}
 use Rattle.sc_text.proofs.LineLaws.{All_push, lacks, AllLack, lacks-spelling, number_of-spelling, number_of_is, in_range_test, in_range_from_test}
 
 dash_is_no_number : number_of (codes "-") ≡ None

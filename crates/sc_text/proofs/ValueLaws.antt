@@ -1,13 +1,10 @@
 -- Laws of the line of a value: fractions in lowest terms, and the fault of a field by its two numbers.
-use Rattle.std.proofs.Common.{◌≡◌, ◌≢◌, ℕ, zero, suc, ◌+◌, ◌≤◌, ◌<◌, Bool, true, false, ◌&&◌, eqb, List, [], ◌∷◌, ◌++◌, Option, Some, None, ℤ, pos, ◌*ℤ◌, ◌<ℤ◌, ◌≤ℤ◌, unsigned_abs, refl, sym, ap, subst, ◌∙◌, arith, inl, inr}
+use Rattle.std.proofs.Common.{◌≡◌, ℕ, ◌≤◌, Bool, false, ◌&&◌, eqb, List, [], ◌∷◌, ◌++◌, Option, Some, None, ℤ, pos, ◌*ℤ◌, ◌<ℤ◌, ◌≤ℤ◌, unsigned_abs, refl, sym, ap, subst, ◌∙◌, arith, inl, inr}
 use Rattle.std.specs.List.{join_with_byte}
-use Rattle.std.specs.Int.{IsGcd}
-use Rattle.std.specs.Prelude.{int_lt, int_div, FitsSigned}
-use Rattle.std.proofs.lemmas.Bool.{cases_Bool, and_left, and_right, false≢true}
-use Rattle.std.proofs.lemmas.Bool.Decides.{nat_tests}
+use Rattle.std.specs.Prelude.{int_lt, int_div}
+use Rattle.std.proofs.lemmas.Bool.{cases_Bool, and_right}
 use Rattle.std.proofs.lemmas.Int.{ints}
 use Rattle.std.proofs.lemmas.List.Splits.{slice_split_none, join_with_byte-slice_split}
-use Rattle.std.proofs.lemmas.Option.{none-some}
 use lib.IntN.{*ℤ_comm}
 use Rattle.sc_whole.proofs.DivisorLaws.{gcd_exists}
 use Rattle.sc_whole.specs.declared.checked.Wide.{Wide as WideNumber}
@@ -20,15 +17,13 @@ use Rattle.sc_fraction.specs.Frac.{numerator, denominator, IsQuotient}
 use Rattle.sc_fraction.specs.Ints.{mul_cancel_z}
 use Rattle.sc_fraction.specs.Laws.{same_frac}
 use Rattle.sc_fraction.specs.Quotient.{quotient_text}
-use Rattle.sc_fraction.specs.Steps.{ForReduced, reduce_steps}
+use Rattle.sc_fraction.specs.Steps.{ForReduced}
 use Rattle.sc_fraction.specs.declared.frac.Frac.{Frac}
-use Rattle.sc_chain.specs.declared.fault.Kind.{Kind}
 use Rattle.sc_chain.specs.declared.fault.Kind.TheVariants.{Form, Range}
 use Rattle.sc_text.specs.declared.limits.TheConstants.{MAX_VALUE}
 use Rattle.sc_text.specs.Lines.{Field, number_of}
-use Rattle.sc_text.specs.Faults.{between}
 use Rattle.sc_text.specs.ValueLines.{quotient_of, halves, are_coprime, quotient_fault, fraction_fault, IsValueInRange}
-use Rattle.sc_text.proofs.LineLaws.{lacking, lacks-spelling_but, number_of_is, split_some}
+use Rattle.sc_text.proofs.LineLaws.{lacking, lacks-spelling_but, number_of_is}
 use Rattle.sc_text.proofs.CoprimeLaws.{coprime_from_test}
 
 -- ---- num/den in lowest terms

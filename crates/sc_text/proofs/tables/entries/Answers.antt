@@ -1,5 +1,4 @@
-use Rattle.std.proofs.Common.{◌≡◌, ◌∙◌, ◌+◌, ◌++◌, ◌∷◌, [], List, Bool, true, false, ℕ, Some, refl, sym, ap, subst, rules}
-use Rattle.sc_text.specs.TableLines.{Entry}
+use Rattle.std.proofs.Common.{◌∙◌, Some, ap, subst}
 use Rattle.sc_text.proofs.EntryLaws.{HasEntries, one_more, one_wide}
 use Rattle.sc_text.proofs.tables.entries.Goals as goal
 use Rattle.sc_text.proofs.tables.entries.Goals.{in-Ok+in_ok-push-in-Ok, in-Err-Range}

@@ -1,4 +1,4 @@
-use Rattle.std.proofs.Common.{◌≡◌, ◌∙◌, ◌≤ℤ◌, ℕ, ℤ, pos, neg_ℤ, Option, Some, None, FitsSigned, of_z, to_z, to_z-of_z, refl, sym, ap, rules}
+use Rattle.std.proofs.Common.{FitsSigned, to_z-of_z, rules}
 use Rattle.std.specs.Int.{w128}
 use Rattle.sc_text.proofs.LineLaws.{told_is}
 use Rattle.sc_text.proofs.tables.entry.Goals as goal

@@ -1,7 +1,7 @@
-use Rattle.std.proofs.Common.{◌≡◌, ◌∙◌, ℕ, ℤ, ap, sym, List, [], ◌∷◌, Some, map, pos, codes}
+use Rattle.std.proofs.Common.{◌≡◌, ◌∷◌, map, pos, codes}
 use Rattle.std.proofs.lemmas.Result.{IfOk-weaker}
 use Rattle.sc_whole.specs.Spelling.{spelling}
-use Rattle.sc_text.specs.Lines.{Field, fields}
+use Rattle.sc_text.specs.Lines.{fields}
 use Rattle.sc_text.specs.TableLines.{entry_field, IsRowInRange}
 use Rattle.sc_text.proofs.LineLaws.{line_from_fields}
 use Rattle.sc_text.proofs.tables.from_line.Goals as goal

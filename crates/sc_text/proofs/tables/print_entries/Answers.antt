@@ -1,5 +1,4 @@
-use Rattle.std.proofs.Common.{◌≡◌, ◌∙◌, ◌+◌, ◌++◌, List, [], ◌∷◌, map, take, drop, sym, subst}
-use Rattle.std.specs.List.{flat_map}
+use Rattle.std.proofs.Common.{◌∷◌}
 use Rattle.sc_text.specs.TableLines.{entry_field}
 use Rattle.sc_text.proofs.PrintLaws.{part_after, pieces_at, on_err}
 use Rattle.sc_text.proofs.tables.print_entries.Goals as goal

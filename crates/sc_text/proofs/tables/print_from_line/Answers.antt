@@ -1,4 +1,4 @@
-use Rattle.std.proofs.Common.{◌≡◌, ◌∙◌, ◌++◌, ℕ, List, [], ◌∷◌, map, codes, pos, rules, refl, sym, ap, subst}
+use Rattle.std.proofs.Common.{◌≡◌, ◌∙◌, ◌++◌, ℕ, List, [], ◌∷◌, codes, pos, rules, refl, sym, ap, subst}
 use Rattle.std.specs.List.{flat_map}
 use Rattle.sc_whole.specs.Spelling.{spelling}
 use Rattle.sc_text.specs.Printing.{AppendsPart}

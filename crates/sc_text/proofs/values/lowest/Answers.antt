@@ -1,10 +1,10 @@
-use Rattle.std.proofs.Common.{◌≡◌, ◌≤◌, ◌∙◌, ℕ, ℤ, pos, Err, of_z, to_z, refl, sym, ap, subst₂, rules}
+use Rattle.std.proofs.Common.{◌≡◌, ◌≤◌, ◌∙◌, ℤ, pos, Err, of_z, to_z, refl, sym, ap, subst₂, rules}
 use Rattle.std.specs.Int.{w128}
 use Rattle.sc_whole.specs.Operation.{IsFirstWide}
 use Rattle.sc_fraction.specs.declared.fault.FracFault.TheVariants.{Zero}
 use Rattle.sc_fraction.specs.Fault.{IfWide}
 use Rattle.sc_fraction.specs.Steps.{ForReduced}
-use Rattle.sc_fraction.specs.Frac.{numerator, denominator, IsQuotient}
+use Rattle.sc_fraction.specs.Frac.{denominator, IsQuotient}
 use Rattle.sc_text.proofs.ValueLaws.{not_zero, no_fault, same_numerator, not_lowest}
 use Rattle.sc_text.proofs.values.lowest.Goals as goal
 
