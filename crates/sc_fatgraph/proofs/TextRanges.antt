@@ -1,21 +1,19 @@
 -- A fatgraph is a surface that a text may hold, and a text is read as the surface that it is of.
-use Rattle.std.proofs.Common.{◌≡◌, ◌≢◌, ℕ, zero, suc, ◌+◌, ◌<◌, ◌≤◌, List, [], ◌∷◌, length, get_or, Some, All, refl, sym, ap, subst, ◌∙◌, arith}
+use Rattle.std.proofs.Common.{◌≡◌, ℕ, suc, ◌+◌, ◌<◌, List, [], ◌∷◌, length, get_or, Some, All, refl, sym, subst, ◌∙◌, arith}
 use Rattle.std.specs.List.{AllByRecursion}
 use Rattle.std.proofs.lemmas.List.{get_or_default}
 use Rattle.std.proofs.lemmas.Option.{none-some}
 use Rattle.sc_theory.specs.declared.Letter.{Letter}
-use Rattle.sc_theory.specs.declared.Side.{Side}
 use Rattle.sc_theory.specs.Words.{Word}
-use Rattle.sc_theory.specs.Chains.{Chain, no_word, no_letter, word, weight, letter, first, positions}
-use Rattle.sc_theory.specs.Fatgraphs.{Sides, no_side, label, mate, next, IsFatgraph}
-use Rattle.sc_theory.proofs.ChainLaws.{place_inside, letter_place, word_inside}
+use Rattle.sc_theory.specs.Chains.{Chain, no_word, no_letter, word, first}
+use Rattle.sc_theory.specs.Fatgraphs.{Sides, no_side}
+use Rattle.sc_theory.proofs.ChainLaws.{place_inside, letter_place}
 use Rattle.sc_chain.specs.Faults.{IsSmallChain}
 use Rattle.sc_chain.specs.declared.limits.TheConstants.{GENERATORS}
-use Rattle.sc_text.specs.declared.limits.TheConstants.{MAX_LABEL, MAX_SIDE}
 use Rattle.sc_text.specs.Words.{IsWordInRange}
 use Rattle.sc_text.specs.Sides.{IsSideInRange}
 use Rattle.sc_text.specs.Faults.{fault_at, IsFaultOf}
-use Rattle.sc_text.specs.Surfaces.{surface_table, surface_text, IsChainInRange, IsSurfaceInRange}
+use Rattle.sc_text.specs.Surfaces.{surface_table, surface_text, IsSurfaceInRange}
 use Rattle.sc_text.proofs.Faultless.{faultless_text}
 use Rattle.sc_text.proofs.OneText.{one_text}
 use Rattle.sc_chain.specs.declared.fault.TextFault.{TextFault}

@@ -1,4 +1,4 @@
-use Rattle.std.proofs.Common.{◌≡◌, ◌∙◌, ap, sym, rules}
+use Rattle.std.proofs.Common.{◌∙◌}
 use Rattle.std.proofs.lemmas.Result.{err_from_is_err_and}
 use Rattle.sc_fatgraph.proofs.ReadChains.{only_memory}
 use Rattle.sc_fatgraph.proofs.TextRanges.{same_surface, only_want_of_memory}
