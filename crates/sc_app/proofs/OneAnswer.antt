@@ -191,7 +191,7 @@ excused words input c R W old new WriteFault f m = λ status text a. inr tt
 excused words input c R W old new Memory f m = λ status text a. inr tt
 
 pub complete : (words : List (List ℕ)) (left left' : Option (List ℕ)) (faults faults' : ℕ) (ReadRose WriteRose : Type 0) (old new : Option (List ℕ)) (s : Status)
-    → IsUnasked words left left' faults faults' old new s ⊎ IsAsked words left ReadRose WriteRose old new s
+    → IsUnasked words left left' faults faults' old new s ⊎ IsAsked words left left' ReadRose WriteRose old new s
     → IfSome left (λ input. (status : Status) (text : List ℕ) → Answers words input status text → (s ≡ status) ⊎ IsExcused s)
 complete words None left' n n' R W old new s h = tt
 complete words (Some input) left' n n' R W old new s (inl h) = λ status text a. absurd (h.none a.0 a.1)

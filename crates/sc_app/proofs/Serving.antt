@@ -1,5 +1,5 @@
 -- What a command may answer, from what it responds and what the sink took.
-use Rattle.std.proofs.Common.{◌≡◌, ℕ, ◌≤◌, ◌⊎◌, inl, inr, List, [], Option, None, Some, IfSome, length, subst, sym, ◌↔◌}
+use Rattle.std.proofs.Common.{◌≡◌, ℕ, ◌≤◌, ◌⊎◌, inl, inr, List, [], Option, None, Some, IfSome, length, subst, sym}
 use Rattle.sc_outside.specs.Told.{Took, TookPart}
 use Rattle.sc_app.specs.declared.command.Command.{Command}
 use Rattle.sc_app.specs.declared.command.Command.TheVariants.{Surface, Scl}
@@ -7,7 +7,7 @@ use Rattle.sc_app.specs.declared.status.Status.{Status}
 use Rattle.sc_app.specs.declared.status.Status.TheVariants.{Done, Usage, Malformed, Large, ReadFault, WriteFault, Memory, Rejected, Unbuilt}
 use Rattle.sc_app.specs.declared.status.What.TheVariants.{Bytes, Words, Positions}
 use Rattle.sc_app.specs.Forms.{IsForm}
-use Rattle.sc_app.specs.Answers.{limit_of, Responds, AnswersTo, Answers, Delivers, Breaks, IsDecided, MayAnswer, IsAsked, IsUnasked}
+use Rattle.sc_app.specs.Answers.{limit_of, Responds, AnswersTo, Answers, Delivers, Breaks, IsDecided, MayAnswer, MayRead, ReadWhole, IsAsked, IsUnasked}
 
 -- a response within the limit is an answer, also to the bytes that the input is known to be
 answers : (c : Command) (input bytes text : List ℕ) (s : Status) → input ≡ bytes → length input ≤ limit_of c → Responds c input s text → AnswersTo c bytes s text
@@ -82,7 +82,31 @@ decided c left R W old new WriteFault d m = absurd d
 decided c left R W old new Memory d m = absurd d
 
 pub answered : (words : List (List ℕ)) (left left' : Option (List ℕ)) (faults faults' : ℕ) (ReadRose WriteRose : Type 0) (old new : Option (List ℕ)) (s : Status)
-    → IsUnasked words left left' faults faults' old new s ⊎ IsAsked words left ReadRose WriteRose old new s → IsDecided s
+    → IsUnasked words left left' faults faults' old new s ⊎ IsAsked words left left' ReadRose WriteRose old new s → IsDecided s
     → IfSome left (λ bytes. (text : List ℕ) × Answers words bytes s text × Took old new text)
 answered words left left' n n' R W old new s (inl h) d = absurd (subst IsDecided h.usage d)
 answered words left left' n n' R W old new s (inr h) d = of_words words h.0 left old new s h.1 (decided h.0 left R W old new s d h.2)
+
+-- ---- what is left of the input
+
+-- a response comes after every byte was read, and so does a failure to write it
+read_whole : (c : Command) (left left' : Option (List ℕ)) (input text : List ℕ) (s : Status) → ReadWhole left left' → Responds c input s text → MayRead c left left' s
+read_whole c left left' input text Done whole resp = whole
+read_whole c left left' input text (Malformed at kind) whole resp = whole
+read_whole Surface left left' input text (Large Bytes) whole resp = absurd resp
+read_whole Scl left left' input text (Large Bytes) whole resp = absurd resp
+read_whole c left left' input text (Large (Words n)) whole resp = whole
+read_whole c left left' input text (Large (Positions n)) whole resp = whole
+read_whole c left left' input text (Rejected kind place) whole resp = whole
+read_whole c left left' input text Unbuilt whole resp = whole
+read_whole Surface left left' input text Usage whole resp = absurd resp
+read_whole Scl left left' input text Usage whole resp = absurd resp
+read_whole c left left' input text ReadFault whole resp = tt
+read_whole c left left' input text WriteFault whole resp = whole
+read_whole Surface left left' input text Memory whole resp = absurd resp
+read_whole Scl left left' input text Memory whole resp = absurd resp
+
+pub served_read : (c : Command) (left left' : Option (List ℕ)) (WriteRose : Type 0) (old new : Option (List ℕ)) (input text : List ℕ) (s r : Status) → ReadWhole left left'
+    → Responds c input s text → ((r ≡ s) × Took old new text) ⊎ ((r ≡ WriteFault) × WriteRose × TookPart old new text) → MayRead c left left' r
+served_read c left left' W old new input text s r whole resp (inl h) = subst (MayRead c left left') (sym h.0) (read_whole c left left' input text s whole resp)
+served_read c left left' W old new input text s r whole resp (inr h) = subst (MayRead c left left') (sym h.0) whole

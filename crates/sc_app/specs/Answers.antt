@@ -1,11 +1,11 @@
 -- What a call of the program may answer.
-use Rattle.std.specs.Prelude.{◌≡◌, ℕ, ◌<◌, ◌≤◌, ◌⊎◌, List, [], length, Option, IfSome}
-use Rattle.sc_outside.specs.Told.{Took, TookPart}
+use Rattle.std.specs.Prelude.{◌≡◌, ℕ, ◌+◌, ◌<◌, ◌≤◌, ◌⊎◌, List, [], length, Option, Some, IfSome}
+use Rattle.sc_outside.specs.Told.{Delivered, Took, TookPart}
 use Rattle.sc_app.specs.declared.command.Command.{Command}
 use Rattle.sc_app.specs.declared.command.Command.TheVariants.{Surface, Scl}
 use Rattle.sc_app.specs.declared.status.Status.{Status}
 use Rattle.sc_app.specs.declared.status.Status.TheVariants.{Done, Usage, Malformed, Large, ReadFault, WriteFault, Memory, Rejected, Unbuilt}
-use Rattle.sc_app.specs.declared.status.What.TheVariants.{Bytes}
+use Rattle.sc_app.specs.declared.status.What.TheVariants.{Bytes, Words, Positions}
 use Rattle.sc_app.specs.declared.limits.TheConstants.{MAX_SURFACE_BYTES, MAX_CHAIN_BYTES}
 use Rattle.sc_app.specs.Forms.{IsForm}
 use Rattle.sc_app.specs.Surface.{SurfaceResponds}
@@ -79,6 +79,51 @@ MayAnswer c input ReadRose WriteRose old new Memory = Took old new []
 MayAnswer c input ReadRose WriteRose old new (Rejected kind place) = Delivers c input old new (Rejected kind place)
 MayAnswer c input ReadRose WriteRose old new Unbuilt = Delivers c input old new Unbuilt × Took old new []
 
+-- ---- what is left of the input
+
+-- where the input was told, every byte of it was read
+abbrev pub ReadWhole : Option (List ℕ) → Option (List ℕ) → Type 0
+ReadWhole left left' = IfSome left (λ input. left' ≡ Some [])
+
+-- one byte more than the command's limit was read
+abbrev pub ReadPastLimit : Command → Option (List ℕ) → Option (List ℕ) → Type 0
+ReadPastLimit c left left' = Delivered left left' (limit_of c + 1)
+
+-- not more bytes than the limit were read
+abbrev pub ReadWithinLimit : Command → Option (List ℕ) → Option (List ℕ) → Type 0
+ReadWithinLimit c left left' = (n : ℕ) × (n ≤ limit_of c) × Delivered left left' n
+
+-- the statuses that come after every byte was read
+abbrev pub IsReadToTheEnd : Status → Type 0
+IsReadToTheEnd Done = Unit {0}
+IsReadToTheEnd (Malformed line kind) = Unit {0}
+IsReadToTheEnd (Large Bytes) = ⊥
+IsReadToTheEnd (Large (Words count)) = Unit {0}
+IsReadToTheEnd (Large (Positions count)) = Unit {0}
+IsReadToTheEnd (Rejected kind place) = Unit {0}
+IsReadToTheEnd Unbuilt = Unit {0}
+IsReadToTheEnd WriteFault = Unit {0}
+IsReadToTheEnd Usage = ⊥
+IsReadToTheEnd ReadFault = ⊥
+IsReadToTheEnd Memory = ⊥
+
+-- how much of the input a command may have read, with each status that it may answer: `left` is what the source had, and
+-- `left'` what it has now
+abbrev pub MayRead : Command → Option (List ℕ) → Option (List ℕ) → Status → Type 0
+MayRead c left left' Done = ReadWhole left left'
+MayRead c left left' (Malformed line kind) = ReadWhole left left'
+MayRead c left left' (Large Bytes) = ReadPastLimit c left left'
+MayRead c left left' (Large (Words count)) = ReadWhole left left'
+MayRead c left left' (Large (Positions count)) = ReadWhole left left'
+MayRead c left left' (Rejected kind place) = ReadWhole left left'
+MayRead c left left' Unbuilt = ReadWhole left left'
+MayRead c left left' WriteFault = ReadWhole left left'
+MayRead c left left' Usage = ⊥
+MayRead c left left' ReadFault = Unit {0}
+MayRead c left left' Memory = ReadWithinLimit c left left'
+
+-- ---- what a call may answer
+
 -- the words are no form
 abbrev pub HasNoForm : List (List ℕ) → Type 0
 HasNoForm words = (c : Command) → IsForm c words → ⊥
@@ -91,10 +136,10 @@ pub record IsUnasked (words : List (List ℕ)) (left left' : Option (List ℕ)) 
   pub same_faults : faults' ≡ faults
   pub nothing : Took old new []
 
--- the words ask for a command, which may answer so
-abbrev pub IsAsked : List (List ℕ) → Option (List ℕ) → Type 0 → Type 0 → Option (List ℕ) → Option (List ℕ) → Status → Type 0
-IsAsked words input ReadRose WriteRose old new status =
-    (c : Command) × IsForm c words × MayAnswer c input ReadRose WriteRose old new status
+-- the words ask for a command, which may answer so after it read so
+abbrev pub IsAsked : List (List ℕ) → Option (List ℕ) → Option (List ℕ) → Type 0 → Type 0 → Option (List ℕ) → Option (List ℕ) → Status → Type 0
+IsAsked words left left' ReadRose WriteRose old new status =
+    (c : Command) × IsForm c words × MayAnswer c left ReadRose WriteRose old new status × MayRead c left left' status
 
 -- a prefix of the text was taken, or all of it
 abbrev pub TookUpTo : Option (List ℕ) → Option (List ℕ) → List ℕ → Type 0

@@ -3,9 +3,10 @@
 ghost use Rattle.std.specs.Prelude.{◌≡◌, ◌↔◌, ◌⊎◌, ℕ, List, [], IfOk, IfSome, ◌≤◌, length};
 ghost use Rattle.sc_outside.specs.Faults.{Rose};
 ghost use Rattle.sc_outside.specs.Told.{Took, TookPart};
-ghost use Rattle.sc_app.specs.Forms.{bytes_of};
+ghost use Rattle.sc_app.specs.Forms.{IsForm, bytes_of};
 ghost use Rattle.sc_app.specs.Notes.{note_of};
-ghost use Rattle.sc_app.specs.Answers.{limit_of, Responds, Answers, HasNoForm, IsDecided, IsQuiet, MayAnswer, IsAsked, IsUnasked, IsExcused, TookUpTo};
+ghost use Rattle.sc_app.specs.Answers.{limit_of, Responds, Answers, HasNoForm, IsDecided, IsQuiet, MayAnswer, MayRead, ReadWhole, ReadPastLimit, ReadWithinLimit, IsReadToTheEnd, IsAsked, IsUnasked, IsExcused, TookUpTo};
+ghost use Rattle.sc_app.specs.declared.command.Command.{Command as AnyCommand};
 ghost use Rattle.sc_app.specs.declared.status.Status.{Status as AnyStatus};
 
 use crate::answer::Answer;
@@ -51,7 +52,8 @@ fn deliver<O: Sink>(answer: &Answer, out: &mut O) -> Status
 }
 
 fn serve<S: Source, O: Sink>(alloc: Global, command: Command, source: &mut S, out: &mut O) -> Status
-    ensures { MayAnswer command (S.left source.old)
+    ensures read { MayRead command (S.left source.old) (S.left source.new) result }
+    ensures answer { MayAnswer command (S.left source.old)
         (Rose (S.faults source.old) (S.faults source.new) (S.stands source.new))
         (Rose (O.faults out.old) (O.faults out.new) (O.stands out.new))
         (O.taken out.old) (O.taken out.new) result }
@@ -77,7 +79,7 @@ fn serve_words<S: Source, O: Sink>(
 ) -> Status
     ensures { IsUnasked (bytes_of words.now.items) (S.left source.old) (S.left source.new) (S.faults source.old) (S.faults source.new)
         (O.taken out.old) (O.taken out.new) result
-        ⊎ IsAsked (bytes_of words.now.items) (S.left source.old)
+        ⊎ IsAsked (bytes_of words.now.items) (S.left source.old) (S.left source.new)
         (Rose (S.faults source.old) (S.faults source.new) (S.stands source.new))
         (Rose (O.faults out.old) (O.faults out.new) (O.stands out.new))
         (O.taken out.old) (O.taken out.new) result }
@@ -100,6 +102,14 @@ pub fn run<S: Source, O: Sink, E: Sink>(
     // Usage exactly where the words match no form; then nothing was read.
     ensures usage { (result ≡ Status.Usage) ↔ HasNoForm (bytes_of words.now.items) }
     ensures unread { result ≡ Status.Usage → (S.left source.new ≡ S.left source.old) × (S.faults source.new ≡ S.faults source.old) }
+
+    // After Large(Bytes) the source gave one byte more than the limit, with the answers to what it had every byte, and before
+    // Memory not more than the limit. What a source gives in a call that fails is its own affair.
+    ensures read_past_limit { result ≡ Status.Large What.Bytes → (c : AnyCommand)
+        × IsForm c (bytes_of words.now.items) × ReadPastLimit c (S.left source.old) (S.left source.new) }
+    ensures read_whole { IsReadToTheEnd result → ReadWhole (S.left source.old) (S.left source.new) }
+    ensures read_within_limit { result ≡ Status.Memory → (c : AnyCommand)
+        × IsForm c (bytes_of words.now.items) × ReadWithinLimit c (S.left source.old) (S.left source.new) }
 
     // A fault is answered only where that object's count rose.
     ensures read_fault { result ≡ Status.ReadFault → Rose (S.faults source.old) (S.faults source.new) (S.stands source.new) }
