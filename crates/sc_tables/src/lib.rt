@@ -1,0 +1,4 @@
+//! Distances between the positions of a chain, and polygons of a total below a threshold.
+#![tactic(auto)]
+
+pub mod laws;
