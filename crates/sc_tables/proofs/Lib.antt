@@ -5,3 +5,7 @@ pub mod Polygons
 pub mod ShortWalks
 pub mod Vouching
 pub mod LeastTotals
+pub mod Rows
+pub mod Best
+pub mod Growing
+pub mod NextRows

@@ -2,3 +2,7 @@
 #![tactic(auto)]
 
 pub mod laws;
+mod prices;
+mod search;
+
+pub use prices::{StepFault, StepPrices};
