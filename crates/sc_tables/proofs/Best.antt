@@ -1,14 +1,15 @@
 -- The cheapest walk with a step to a position, one walk after another.
-use Rattle.std.proofs.Common.{◌≡◌, ℕ, suc, ◌+◌, ◌<◌, ◌≤◌, List, length, Option, Some, None, IfSome, IfNone, ◌⊎◌, slice_get, arith, refl, sym, ap, subst, ◌∙◌, inl, inr}
+use Rattle.std.proofs.Common.{◌≡◌, ℕ, suc, ◌+◌, ◌<◌, ◌≤◌, List, length, Option, Some, None, IfSome, IfNone, is_some, false, ◌⊎◌, slice_get, arith, refl, sym, ap, subst, ◌∙◌, inl, inr}
 use Rattle.std.proofs.lemmas.Bool.{cases_lt}
+use Rattle.std.proofs.lemmas.Option.{slice_get_within}
 use Rattle.sc_weight.specs.Levels.{Levels, levels_sum}
 use Rattle.sc_tables.specs.Squares.{Square, cell}
-use Rattle.sc_tables.specs.Totals.{IsAtMost}
+use Rattle.sc_tables.specs.Totals.{IsBelow, IsAtMost}
 use Rattle.sc_tables.specs.declared.search.Node.{Node}
 use Rattle.sc_tables.specs.declared.search.Candidate.{Candidate}
 use Rattle.sc_tables.specs.declared.search.Stop.{Stop}
 use Rattle.sc_tables.specs.declared.search.Stop.TheVariants.{Wide, Memory}
-use Rattle.sc_tables.specs.Searches.{IsCandidate, HasNoStep, Under, Covers, IsBest, IsStop}
+use Rattle.sc_tables.specs.Searches.{IsCandidate, HasNoStep, Under, Covers, IsBest, IsStop, Closes, AllReach}
 use Rattle.sc_tables.proofs.Order.{at_most-trans}
 
 pub same_item : {A : Type 0} (x y : A) (o : Option A) → o ≡ Some x → o ≡ Some y → x ≡ y
@@ -69,3 +70,23 @@ module _ {W : Type 0} (levels : W → Levels) (t : Square W) (a b : List (Node W
   found-along found =
       subst (λ (o : Option (Candidate W)). IfSome o (λ c. (c.node < end) × IsCandidate levels t b j c)) options
       (subst (λ (ns : List (Node W)). IfSome x (λ c. (c.node < end) × IsCandidate levels t ns j c)) lists found)
+
+-- ---- back to the start
+pub at_none : {A : Type 0} (o : Option A) (P : Type 0) → false ≡ is_some o → IfNone o P → P
+at_none None P e h = h
+at_none (Some a) P e h = absurd (cc)
+
+module _ {W : Type 0} (levels : W → Levels) (t : Square W) (nodes : List (Node W)) (threshold : Levels) (fresh s : ℕ) where
+  pub closes_from : (b : Candidate W) → IsCandidate levels t nodes s b → IsBelow (levels b.total) threshold → Closes levels t nodes threshold s b.node
+  closes_from b is below =
+      record { here = is.here; here_is = is.here_is; price = is.price; step = is.step; below = subst (λ (l : Levels). IsBelow l threshold) is.total below }
+
+  pub reach_from : (found : Option (Candidate W)) (b : Candidate W) → found ≡ Some b → Covers levels t nodes fresh (length nodes) s found → IsAtMost threshold (levels b.total) → AllReach levels t nodes threshold fresh s
+  reach_from found b e covers high n x w from here step =
+      let low : IsAtMost (levels b.total) (levels_sum (levels x.total) (levels w)) =
+        subst (λ (o : Option (Candidate W)). Under levels o (levels_sum (levels x.total) (levels w))) e (covers n x w from (slice_get_within nodes n x here) here step) in
+      at_most-trans threshold (levels b.total) _ high low
+
+  pub reach_none : (found : Option (Candidate W)) → found ≡ None → Covers levels t nodes fresh (length nodes) s found → AllReach levels t nodes threshold fresh s
+  reach_none found e covers n x w from here step =
+      absurd (subst (λ (o : Option (Candidate W)). Under levels o (levels_sum (levels x.total) (levels w))) e (covers n x w from (slice_get_within nodes n x here) here step))

@@ -9,3 +9,5 @@ pub mod Rows
 pub mod Best
 pub mod Growing
 pub mod NextRows
+pub mod Trails
+pub mod States

@@ -5,3 +5,4 @@ pub mod Squares
 pub mod StepPrices
 pub mod Searches
 pub mod Rows
+pub mod States

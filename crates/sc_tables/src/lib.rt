@@ -2,6 +2,7 @@
 #![tactic(auto)]
 
 pub mod laws;
+mod explore;
 mod prices;
 mod search;
 

@@ -123,7 +123,7 @@ fn best_into<W: Weight>(
 }
 
 /// The number of the cheapest new walk that a step takes back to the start for less than the threshold, if there is one.
-fn closing<W: Weight>(
+pub(crate) fn closing<W: Weight>(
     nodes: &[Node<W>],
     prices: &StepPrices<W>,
     threshold: &W,
@@ -194,7 +194,7 @@ fn next_entry<W: Weight>(
 }
 
 /// The entries of all positions after a round more.
-fn next_row<W: Weight>(
+pub(crate) fn next_row<W: Weight>(
     nodes: &mut Vec<Node<W>>,
     row: &[Option<usize>],
     next: &mut Vec<Option<usize>>,

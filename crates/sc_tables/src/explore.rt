@@ -1,0 +1,86 @@
+//! A search from one start: round after round, until a round changes nothing.
+
+ghost use Rattle.std.specs.Prelude.{◌≡◌, ◌<◌, ◌≤◌, ℕ, length, get_or, None, IfOk, IfErr, OnOk, IfSome, IfNone};
+ghost use Rattle.sc_theory.specs.Chains.{positions};
+ghost use Rattle.sc_tables.specs.StepPrices.{AreForChain};
+ghost use Rattle.sc_tables.specs.Searches.{AreWalks, IsStop, Closes, Grows, IsGrowing, AreEnds, IsNext};
+ghost use Rattle.sc_tables.specs.States.{IsBegun, IsDone, StopsWithin};
+
+use crate::prices::StepPrices;
+use crate::search::{Node, Stop, closing, next_row};
+use sc_chain::Chain;
+use sc_weight::Weight;
+use std::alloc::{AllocError, Global};
+use std::mem;
+
+/// The walks of a search, and for each position the number of the cheapest one to it, if there is one. The last list is
+/// room for the entries after the next round.
+#[derive(Debug, Drop)]
+pub(crate) struct Trails<W> {
+    pub(crate) nodes: Vec<Node<W>>,
+    pub(crate) row: Vec<Option<usize>>,
+    next: Vec<Option<usize>>,
+}
+
+/// One round: the entries are replaced by those with a step more.
+fn advance<W: Weight>(
+    trails: &mut Trails<W>,
+    prices: &StepPrices<W>,
+    fresh: usize,
+    start: usize,
+    steps: usize,
+) -> Result<(), Stop>
+    requires growing { IsGrowing W.levels prices.now start steps (length trails.old.nodes.items) trails.old.nodes.items }
+    requires len { length trails.old.row.items ≡ prices.now.side }
+    requires entries { AreEnds trails.old.nodes.items trails.old.row.items }
+    ensures growing { IsGrowing W.levels prices.now start steps (length trails.old.nodes.items) trails.new.nodes.items }
+    ensures grows { Grows trails.old.nodes.items trails.new.nodes.items }
+    ensures len { OnOk result (length trails.new.row.items ≡ prices.now.side) }
+    ensures next { OnOk result ((j : ℕ) → j < prices.now.side → IsNext W.levels prices.now trails.new.nodes.items fresh (length trails.old.nodes.items) start j (get_or trails.old.row.items j None) (get_or trails.new.row.items j None)) }
+    ensures stops { IfErr result (λ stop. (j : ℕ) × (j < prices.now.side) × IsStop W.levels prices.now trails.new.nodes.items (length trails.old.nodes.items) j stop) }
+{
+    next_row(
+        &mut trails.nodes,
+        trails.row.as_slice(),
+        &mut trails.next,
+        prices,
+        fresh,
+        start,
+        steps,
+    )?;
+    mem::swap(&mut trails.row, &mut trails.next);
+    Ok(())
+}
+
+/// Searches from a start, over walks that don't come back to it. It answers the number of a walk that a step takes back
+/// to the start for less than the threshold, or none where the entries are those of the cheapest walks.
+pub(crate) fn explore<W: Weight>(
+    trails: &mut Trails<W>,
+    chain: &Chain,
+    prices: &StepPrices<W>,
+    threshold: &W,
+    start: usize,
+) -> Result<Option<usize>, Stop>
+    requires prices { AreForChain chain.now prices.now }
+    requires start { start < positions chain.now }
+    requires begun { IsBegun W.levels prices.now start trails.old.nodes.items trails.old.row.items }
+    ensures walks { AreWalks W.levels prices.now start (positions chain.now) trails.new.nodes.items }
+    ensures closes { IfOk result (λ o. IfSome o (Closes W.levels prices.now trails.new.nodes.items (W.levels threshold.now) start)) }
+    ensures done { IfOk result (λ o. IfNone o (IsDone W.levels chain.now prices.now (W.levels threshold.now) start trails.new.nodes.items trails.new.row.items)) }
+    ensures stops { IfErr result (StopsWithin W.levels prices.now trails.new.nodes.items (positions chain.now)) }
+{
+    let mut fresh = 0;
+    for round in 0..chain.positions() {
+        let closed = closing(trails.nodes.as_slice(), prices, threshold, fresh, start)?;
+        if closed.is_some() {
+            return Ok(closed);
+        }
+        let end = trails.nodes.len();
+        advance(trails, prices, fresh, start, round + 1)?;
+        if trails.nodes.len() == end {
+            return Ok(None);
+        }
+        fresh = end;
+    }
+    Ok(None)
+}
