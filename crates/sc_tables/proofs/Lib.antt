@@ -11,3 +11,4 @@ pub mod Growing
 pub mod NextRows
 pub mod Trails
 pub mod States
+pub mod SplitSteps

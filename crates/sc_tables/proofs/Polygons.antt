@@ -20,16 +20,16 @@ swap_apart : (x y : ℕ) → x ≢ y → y ≢ x
 swap_apart x y ne e = ne (sym e)
 
 -- x stands apart from xs, and xs has no repeat: x may be put at any place
-put_last : (xs : List ℕ) (x : ℕ) → HasNoRepeat xs → Apart x xs → HasNoRepeat (xs ++ x ∷ [])
+pub put_last : (xs : List ℕ) (x : ℕ) → HasNoRepeat xs → Apart x xs → HasNoRepeat (xs ++ x ∷ [])
 put_last [] x simple away = (tt, tt)
 put_last (y ∷ xs) x simple away =
     (all-append (λ j. y ≢ j) xs (x ∷ []) simple.0 ((λ e. away.0 (sym e)), tt), put_last xs x simple.1 away.1)
 
-regroup_list : (xs : List ℕ) (y : ℕ) (ys : List ℕ) → (xs ++ y ∷ []) ++ ys ≡ xs ++ y ∷ ys
+pub regroup_list : (xs : List ℕ) (y : ℕ) (ys : List ℕ) → (xs ++ y ∷ []) ++ ys ≡ xs ++ y ∷ ys
 regroup_list [] y ys = refl
 regroup_list (x ∷ xs) y ys = ap (λ (zs : List ℕ). x ∷ zs) (regroup_list xs y ys)
 
-append-nil : (xs : List ℕ) → xs ++ [] ≡ xs
+pub append-nil : (xs : List ℕ) → xs ++ [] ≡ xs
 append-nil [] = refl
 append-nil (x ∷ xs) = ap (λ (ys : List ℕ). x ∷ ys) (append-nil xs)
 

@@ -34,14 +34,14 @@ module _ (c : Chain) (price : ℕ → ℕ → Levels) (threshold : Levels) (entr
   none_negative : AllAtLeast c price zero_levels
   none_negative walk closed = at_most-trans zero_levels threshold (closed_total price walk) (at_most_from_below zero_levels threshold above) (all_at_least walk closed)
 
-  least_at : (s j : ℕ) (inside : s < positions c) (o : Option Levels) → entry s j ≡ o → IsLeastTotal c price s j o
-  least_at s j inside None e = λ js leads.
+  least_at : (s j : ℕ) (inside : s < positions c) (within : j < positions c) (o : Option Levels) → entry s j ≡ o → IsLeastTotal c price s j o
+  least_at s j inside within None e = λ js leads.
       (let short = short_suffices c price none_negative s j inside js leads in
       let (a, is, low) = (rows s inside).cover j short.walk short.leads short.short in
       absurd (cc))
-  least_at s j inside (Some a) e =
+  least_at s j inside within (Some a) e =
       record {
-        reached = (rows s inside).sound j a e;
+        reached = (rows s inside).sound j a within e;
         least = λ js leads.
           (let short = short_suffices c price none_negative s j inside js leads in
           let (b, is, low) = (rows s inside).cover j short.walk short.leads short.short in
@@ -50,7 +50,7 @@ module _ (c : Chain) (price : ℕ → ℕ → Levels) (threshold : Levels) (entr
       }
 
   pub are_least : AreLeastTotals c price entry
-  are_least s j inside within = least_at s j inside (entry s j) refl
+  are_least s j inside within = least_at s j inside within (entry s j) refl
 
   pub vouch : VouchFor c price threshold entry
   vouch = vouches c price threshold entry above all_at_least are_least

@@ -163,7 +163,7 @@ module _ {W : Type 0} (levels : W → Levels) (c : Chain) (t : Square W) (thresh
   all_done fresh state =
       record { len = state.len; ends = state.ends; covers = λ j js leads short. state.covers j js leads (omega arith); back = state.back }
 
-  pub first_state : s < t.side → IsBegun levels t s nodes row → IsState levels c t threshold s 0 0 nodes row
+  pub first_state : s < t.side → IsBegun levels t.side s nodes row → IsState levels c t threshold s 0 0 nodes row
   first_state inside begun = at_node begun.node
     where
       at_node : (x : Node W) × (nodes ≡ x ∷ []) × (x.place ≡ s) × (x.steps ≡ 0) × (levels x.total ≡ zero_levels) → IsState levels c t threshold s 0 0 nodes row

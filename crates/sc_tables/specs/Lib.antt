@@ -6,3 +6,4 @@ pub mod StepPrices
 pub mod Searches
 pub mod Rows
 pub mod States
+pub mod Splits

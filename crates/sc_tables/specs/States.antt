@@ -11,10 +11,16 @@ use Rattle.sc_tables.specs.declared.search.Node.{Node}
 use Rattle.sc_tables.specs.declared.search.Stop.{Stop}
 use Rattle.sc_tables.specs.Searches.{AreWalks, IsStop, AreEnds, Lower}
 
+-- the first n entries of a row that has the walk number 0 at s, and none elsewhere
+pub record IsFirstRow (s n : ℕ) (row : List (Option ℕ)) : Type 0 where
+  pub len : length row ≡ n
+  pub start : s < n → get_or row s None ≡ Some 0
+  pub others : (j : ℕ) → j ≢ s → get_or row j None ≡ None
+
 -- the row of a search that begins: the walk without steps alone
-pub record IsBegun {W : Type 0} (levels : W → Levels) (t : Square W) (s : ℕ) (nodes : List (Node W)) (row : List (Option ℕ)) : Type 0 where
+pub record IsBegun {W : Type 0} (levels : W → Levels) (side s : ℕ) (nodes : List (Node W)) (row : List (Option ℕ)) : Type 0 where
   pub node : (x : Node W) × (nodes ≡ x ∷ []) × (x.place ≡ s) × (x.steps ≡ 0) × (levels x.total ≡ zero_levels)
-  pub len : length row ≡ t.side
+  pub len : length row ≡ side
   pub start : get_or row s None ≡ Some 0
   pub others : (j : ℕ) → j ≢ s → get_or row j None ≡ None
 

@@ -2,9 +2,10 @@
 
 ghost use Rattle.std.specs.Prelude.{◌≡◌, ◌<◌, ◌≤◌, ℕ, length, get_or, None, IfOk, IfErr, OnOk, IfSome, IfNone};
 ghost use Rattle.sc_theory.specs.Chains.{positions};
+ghost use Rattle.sc_chain.specs.declared.limits.TheConstants.{MAX_POSITIONS};
 ghost use Rattle.sc_tables.specs.StepPrices.{AreForChain};
 ghost use Rattle.sc_tables.specs.Searches.{AreWalks, IsStop, Closes, Grows, IsGrowing, AreEnds, IsNext};
-ghost use Rattle.sc_tables.specs.States.{IsBegun, IsDone, StopsWithin};
+ghost use Rattle.sc_tables.specs.States.{IsFirstRow, IsBegun, IsDone, StopsWithin};
 
 use crate::prices::StepPrices;
 use crate::search::{Node, Stop, closing, next_row};
@@ -20,6 +21,49 @@ pub(crate) struct Trails<W> {
     pub(crate) nodes: Vec<Node<W>>,
     pub(crate) row: Vec<Option<usize>>,
     next: Vec<Option<usize>>,
+}
+
+impl<W: Weight> Trails<W> {
+    /// Room for the searches over so many positions.
+    pub(crate) fn new(alloc: Global, positions: usize) -> Result<Trails<W>, AllocError>
+        requires { positions ≤ MAX_POSITIONS }
+    {
+        Ok(Trails {
+            nodes: Vec::with_capacity(alloc, positions * positions)?,
+            row: Vec::with_capacity(alloc, positions)?,
+            next: Vec::with_capacity(alloc, positions)?,
+        })
+    }
+}
+
+/// The entries before the first round: only the start has one, its walk without steps.
+fn first_row(row: &mut Vec<Option<usize>>, start: usize, positions: usize) -> Result<(), AllocError>
+    ensures { OnOk result (IsFirstRow start positions row.new.items) }
+{
+    row.clear();
+    for place in 0..positions {
+        row.push(if place == start { Some(0) } else { None })?;
+    }
+    Ok(())
+}
+
+/// Leaves the walk without steps alone.
+pub(crate) fn begin<W: Weight>(
+    trails: &mut Trails<W>,
+    start: usize,
+    positions: usize,
+) -> Result<(), AllocError>
+    requires { start < positions }
+    ensures { OnOk result (IsBegun W.levels positions start trails.new.nodes.items trails.new.row.items) }
+{
+    trails.nodes.clear();
+    trails.nodes.push(Node {
+        place: start,
+        before: 0,
+        steps: 0,
+        total: W::zero(),
+    })?;
+    first_row(&mut trails.row, start, positions)
 }
 
 /// One round: the entries are replaced by those with a step more.
@@ -63,7 +107,7 @@ pub(crate) fn explore<W: Weight>(
 ) -> Result<Option<usize>, Stop>
     requires prices { AreForChain chain.now prices.now }
     requires start { start < positions chain.now }
-    requires begun { IsBegun W.levels prices.now start trails.old.nodes.items trails.old.row.items }
+    requires begun { IsBegun W.levels prices.now.side start trails.old.nodes.items trails.old.row.items }
     ensures walks { AreWalks W.levels prices.now start (positions chain.now) trails.new.nodes.items }
     ensures closes { IfOk result (λ o. IfSome o (Closes W.levels prices.now trails.new.nodes.items (W.levels threshold.now) start)) }
     ensures done { IfOk result (λ o. IfNone o (IsDone W.levels chain.now prices.now (W.levels threshold.now) start trails.new.nodes.items trails.new.row.items)) }

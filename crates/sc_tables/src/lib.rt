@@ -5,5 +5,7 @@ pub mod laws;
 mod explore;
 mod prices;
 mod search;
+mod splitting;
 
 pub use prices::{StepFault, StepPrices};
+pub use splitting::split;
