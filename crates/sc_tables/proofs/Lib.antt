@@ -12,3 +12,4 @@ pub mod NextRows
 pub mod Trails
 pub mod States
 pub mod SplitSteps
+pub mod StepCells

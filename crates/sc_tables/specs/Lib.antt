@@ -7,3 +7,4 @@ pub mod Searches
 pub mod Rows
 pub mod States
 pub mod Splits
+pub mod StepFaults
