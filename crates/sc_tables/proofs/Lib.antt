@@ -9,7 +9,10 @@ pub mod Rows
 pub mod Best
 pub mod Growing
 pub mod NextRows
-pub mod Trails
+pub mod NodeWalks
 pub mod States
 pub mod SplitSteps
 pub mod StepCells
+pub mod ReadingBack
+pub mod PolygonTotals
+pub mod SearchedRows

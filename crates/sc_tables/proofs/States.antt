@@ -16,7 +16,7 @@ use Rattle.sc_tables.proofs.LeastTotals.{open_total-step, no_steps}
 use Rattle.sc_tables.proofs.Best.{same_item}
 use Rattle.sc_tables.proofs.Growing.{lower-grows, lower-trans, item_before}
 use Rattle.sc_tables.proofs.NextRows.{end_below}
-use Rattle.sc_tables.proofs.Trails.{LastStep, last_step_of, price_at}
+use Rattle.sc_tables.proofs.NodeWalks.{LastStep, last_step_of, price_at}
 
 -- ---- entries
 pub entry_inside : (row : List (Option ℕ)) (i n : ℕ) → get_or row i None ≡ Some n → i < length row

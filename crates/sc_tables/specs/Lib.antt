@@ -8,3 +8,5 @@ pub mod Rows
 pub mod States
 pub mod Splits
 pub mod StepFaults
+pub mod Trails
+pub mod CheapPolygons

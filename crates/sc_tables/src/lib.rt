@@ -6,6 +6,9 @@ mod explore;
 mod prices;
 mod search;
 mod splitting;
+mod tables;
+mod trails;
 
 pub use prices::{StepFault, StepPrices};
 pub use splitting::split;
+pub use tables::{Distances, Found, TableFault, cheap_polygon};
