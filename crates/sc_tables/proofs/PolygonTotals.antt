@@ -2,6 +2,7 @@
 use Rattle.std.proofs.Common.{◌≡◌, ◌≢◌, ◌⊎◌, ℕ, zero, suc, ◌+◌, ◌<◌, ◌≤◌, List, [], ◌∷◌, ◌++◌, length, get_or, take, ℤ, pos, ◌+ℤ◌, arith, refl, sym, ap, ap₂, subst, ◌∙◌, length-append, length-take}
 use Rattle.std.specs.List.{AllByRecursion}
 use Rattle.std.proofs.Math.Seq.{take-length}
+use Rattle.std.proofs.lemmas.List.{take_more}
 use Rattle.std.proofs.lemmas.Int.{ints}
 use Rattle.sc_theory.specs.Chains.{Chain, positions}
 use Rattle.sc_theory.specs.Walks.{IsStep, WalksBack, IsClosedWalk, IsPolygon, HasNoRepeat, walk_total}
@@ -19,7 +20,6 @@ use Rattle.sc_tables.proofs.Order.{at_most-trans, threshold_sum, at_most_below}
 use Rattle.sc_tables.proofs.WalkLaws.{walks-append, walks_out, walks_front, last_step, closed_inside}
 use Rattle.sc_tables.proofs.Repeats.{simple_is_short}
 use Rattle.sc_tables.proofs.LeastTotals.{open_total-step, closed_total-back}
-use Rattle.sc_tables.proofs.SplitSteps.{take_more}
 
 -- ---- the step number k of a closed walk
 step_back : (c : Chain) (start i : ℕ) (js : List ℕ) (k : ℕ) → WalksBack c start i js → k < suc (length js) → IsStep c (get_or (i ∷ js) k 0) (get_or (js ++ start ∷ []) k 0)
@@ -74,7 +74,7 @@ module _ (price : ℕ → ℕ → Levels) (walk : List ℕ) where
   pub total-next : (k : ℕ) → k < length walk → levels_sum (total_after price walk k) (price (get_or walk k 0) (get_or (round walk) k 0)) ≡ total_after price walk (k + 1)
   total-next k inside =
       sym (open_total-step price (get_or walk 0 0) (take k (round walk)) (get_or walk k 0) (get_or (round walk) k 0) (end_after walk k inside))
-      ∙ ap (open_total price (get_or walk 0 0)) (sym (take_more (round walk) k (omega (arith, length-round walk))))
+      ∙ ap (open_total price (get_or walk 0 0)) (sym (take_more (round walk) k 0 (omega (arith, length-round walk))))
 
 pub total-all : (price : ℕ → ℕ → Levels) (c : Chain) (walk : List ℕ) → IsClosedWalk c walk → total_after price walk (length walk) ≡ closed_total price walk
 total-all price c [] closed = absurd closed
@@ -87,7 +87,7 @@ pub wide_step : (c : Chain) (price : ℕ → ℕ → Levels) (walk : List ℕ) (
     IsFirstWideLevel Add (levels_sum (total_after price walk k) (price (get_or walk k 0) (get_or (round walk) k 0))) (total_after price walk k) (price (get_or walk k 0) (get_or (round walk) k 0)) wide →
     IsWideWalk c price (take (k + 1) walk ++ get_or (round walk) k 0 ∷ []) wide.level wide.wide
 wide_step c price walk k wide polygon inside evidence =
-    let more : take (k + 1) (round walk) ≡ take k (round walk) ++ get_or (round walk) k 0 ∷ [] = take_more (round walk) k (omega (arith, length-round walk)) in
+    let more : take (k + 1) (round walk) ≡ take k (round walk) ++ get_or (round walk) k 0 ∷ [] = take_more (round walk) k 0 (omega (arith, length-round walk)) in
     let (rest, is) = take_split (round walk) (k + 1) in
     let along : WalksAlong c (get_or walk 0 0) (take (k + 1) (round walk)) = walks_front c (get_or walk 0 0) (take (k + 1) (round walk)) rest (subst (WalksAlong c (get_or walk 0 0)) is (walks_round c walk polygon.closed)) in
     let short : length walk ≤ positions c = simple_is_short (positions c) walk polygon.simple (closed_inside c walk polygon.closed) in

@@ -1,6 +1,7 @@
 -- A walk that is read back from its end.
 use Rattle.std.proofs.Common.{◌≡◌, ◌≢◌, ℕ, zero, suc, ◌+◌, ◌<◌, ◌≤◌, List, [], ◌∷◌, ◌++◌, length, slice_get, reverse, Some, arith, refl, sym, ap, ap₂, subst, ◌∙◌, length-append}
 use Rattle.std.proofs.lemmas.List.{reverse-append}
+use Rattle.std.proofs.lemmas.Option.{slice_get_within}
 use Rattle.sc_theory.specs.Chains.{Chain, positions}
 use Rattle.sc_theory.specs.Walks.{IsStep}
 use Rattle.sc_weight.specs.Levels.{Levels, zero_levels, levels_sum}
@@ -15,7 +16,11 @@ use Rattle.sc_tables.specs.StepPrices.{AreForChain, price_in}
 use Rattle.sc_tables.specs.declared.search.Node.{Node}
 use Rattle.sc_tables.specs.Searches.{AreWalks, Extends, Closes, IsWideAt}
 use Rattle.sc_tables.specs.Trails.{IsWalkOf, ReadsTo, AreLinked, GoesTo, IsReadTo}
-use Rattle.sc_tables.specs.CheapPolygons.{IsWideWalk, IsClosedBelow}
+use Rattle.sc_tables.specs.States.{StopsWithin}
+use Rattle.sc_tables.specs.declared.search.Stop.{Stop}
+use Rattle.sc_tables.specs.declared.search.Stop.TheVariants.{Wide, Memory}
+use Rattle.sc_tables.specs.declared.tables.TableFault.{TableFault}
+use Rattle.sc_tables.specs.CheapPolygons.{IsWideWalk, IsClosedBelow, IsTableFault, NamesNode, ShowsStop}
 use Rattle.sc_tables.proofs.WalkLaws.{walks-append, walks_back}
 use Rattle.sc_tables.proofs.LeastTotals.{closed_total-back}
 use Rattle.sc_tables.proofs.Best.{same_item}
@@ -117,3 +122,15 @@ module _ {W : Type 0} (levels : W → Levels) where
           subst (λ (p : Levels). IsFirstWideLevel Add (levels_sum (open_total (price_in levels t) s w.rest) p) (open_total (price_in levels t) s w.rest) p wide) price
           (subst (λ (a : Levels). IsFirstWideLevel Add (levels_sum a (levels is.price)) a (levels is.price) wide) (sym w.total) is.evidence)
       }
+
+-- ---- the fault of a stop
+module _ {W : Type 0} (levels : W → Levels) (t : Square W) (nodes : List (Node W)) where
+  pub names_node : (most : ℕ) (stop : Stop) → t.side ≤ 64 → StopsWithin levels t nodes most stop → NamesNode nodes stop
+  names_node most (Wide n to wide) small is = let at = is.stop_is.1 in (slice_get_within nodes n at.here at.here_is, omega (arith, is.inside, is.stop_is.0))
+  names_node most Memory small is = tt
+
+  pub stop_shown : (c : Chain) (s : ℕ) (stop : Stop) (fault : TableFault) → AreForChain c t → AreWalks levels t s (positions c) nodes → StopsWithin levels t nodes (positions c) stop → ShowsStop levels nodes stop fault → IsTableFault c (price_in levels t) fault
+  stop_shown c s (Wide n to wide) fault fits are is shows =
+      let at : IsWideAt levels t nodes is.end to n wide = subst (λ (k : ℕ). IsWideAt levels t nodes is.end k n wide) (sym is.stop_is.0) is.stop_is.1 in
+      shows c t s (positions c) is.end fits are at (omega (arith, is.inside, is.stop_is.0, fits.side)) (λ x here. is.before n x at.node here)
+  stop_shown c s Memory fault fits are is shows = subst (IsTableFault c (price_in levels t)) (sym shows) tt

@@ -2,6 +2,7 @@
 use Rattle.std.proofs.Common.{◌≡◌, ◌≢◌, ◌⊎◌, ℕ, zero, suc, ◌+◌, ◌-◌, ◌<◌, ◌≤◌, List, [], ◌∷◌, ◌++◌, length, get_or, take, drop, ℤ, pos, ◌+ℤ◌, arith, length-drop, refl, sym, ap, subst, ◌∙◌, inl, inr}
 use Rattle.std.specs.List.{AllByRecursion}
 use Rattle.std.proofs.Math.Seq.{take-length}
+use Rattle.std.proofs.lemmas.List.{take_more}
 use Rattle.std.proofs.lemmas.Int.{ints}
 use Rattle.sc_theory.specs.Chains.{Chain}
 use Rattle.sc_theory.specs.Walks.{IsClosedWalk, IsPolygon, HasNoRepeat, walk_total}
@@ -74,14 +75,6 @@ simple_back : (xs ys : List ℕ) → HasNoRepeat (xs ++ ys) → HasNoRepeat ys
 simple_back [] ys simple = simple
 simple_back (x ∷ xs) ys simple = simple_back xs ys simple.1
 
-take_more : (xs : List ℕ) (k : ℕ) → k < length xs → take (k + 1) xs ≡ take k xs ++ get_or xs k 0 ∷ []
-take_more [] k inside = absurd (omega arith)
-take_more (x ∷ xs) zero inside = refl
-take_more (x ∷ xs) (suc k) inside = ap (λ (n : ℕ). take n (x ∷ xs)) (shift k) ∙ ap (λ (ys : List ℕ). x ∷ ys) (take_more xs k (omega arith))
-  where
-    shift : (k : ℕ) → suc k + 1 ≡ suc (k + 1)
-    shift k = omega arith
-
 pub walks_total-last : (f : ℕ → ℕ → ℤ) (ws : List (List ℕ)) (w : List ℕ) → walks_total f (ws ++ w ∷ []) ≡ walks_total f ws +ℤ walk_total f w
 walks_total-last f [] w = omega (arith, ints)
 walks_total-last f (v ∷ ws) w = omega (arith, ints, walks_total-last f ws w)
@@ -150,7 +143,7 @@ module _ (c : Chain) (path : List ℕ) (x k : ℕ) (inside : k < length path) (a
   passed_simple simple = subst HasNoRepeat back_is (simple_back (take k path) (x ∷ from_there.rest) (subst HasNoRepeat was simple))
 
   stays : take (k + 1) path ≡ take k path ++ x ∷ []
-  stays = let p = from_there in take_more path k inside ∙ ap (λ (y : ℕ). take k path ++ y ∷ []) at
+  stays = let p = from_there in take_more path k 0 inside ∙ ap (λ (y : ℕ). take k path ++ y ∷ []) at
 
   pub cuts_off : (new : List ℕ) (polygons made : List (List ℕ)) (polygon : List ℕ) → new ≡ take (k + 1) path → IsPolygonOf c (drop k path) polygon → made ≡ polygons ++ polygon ∷ [] → CutsOff c x path new polygons made
   cuts_off new polygons made polygon cut is added =

@@ -16,6 +16,8 @@ use Rattle.sc_tables.specs.StepPrices.{AreForChain, price_in}
 use Rattle.sc_tables.specs.Rows.{IsSearched}
 use Rattle.sc_tables.specs.Searches.{AreWalks, IsWideAt}
 use Rattle.sc_tables.specs.declared.search.Node.{Node}
+use Rattle.sc_tables.specs.declared.search.Stop.{Stop}
+use Rattle.sc_tables.specs.declared.search.Stop.TheVariants as Stops
 use Rattle.sc_weight.specs.declared.level.WideLevel.{WideLevel}
 use Rattle.sc_tables.specs.declared.tables.Found.{Found}
 use Rattle.sc_tables.specs.declared.tables.Found.TheVariants.{Polygon, Tables}
@@ -80,6 +82,15 @@ abbrev pub ShowsWide : {W : Type 0} → (W → Levels) → List (Node W) → ℕ
 ShowsWide {W} levels nodes n to wide fault =
     (c : Chain) (t : Square W) (s most end : ℕ) → AreForChain c t → AreWalks levels t s most nodes → IsWideAt levels t nodes end to n wide → to < positions c →
     ((x : Node W) → slice_get nodes n ≡ Some x → x.steps < positions c) → IsTableFault c (price_in levels t) fault
+
+-- a stop names a node and a position
+abbrev pub NamesNode : {W : Type 0} → List (Node W) → Stop → Type 0
+NamesNode nodes (Stops.Wide n to wide) = (n < length nodes) × (to ≤ 64)
+NamesNode nodes Stops.Memory = Unit {0}
+
+abbrev pub ShowsStop : {W : Type 0} → (W → Levels) → List (Node W) → Stop → TableFault → Type 0
+ShowsStop levels nodes (Stops.Wide n to wide) fault = ShowsWide levels nodes n to wide fault
+ShowsStop levels nodes Stops.Memory fault = fault ≡ Memory
 
 -- the ends of the steps of a closed walk: each position behind the first, and the first
 abbrev pub round : List ℕ → List ℕ

@@ -56,6 +56,7 @@ pub(crate) fn begin<W: Weight>(
     requires { start < positions }
     ensures { OnOk result (IsBegun W.levels positions start trails.new.nodes.items trails.new.row.items) }
 {
+    first_row(&mut trails.row, start, positions)?;
     trails.nodes.clear();
     trails.nodes.push(Node {
         place: start,
@@ -63,7 +64,7 @@ pub(crate) fn begin<W: Weight>(
         steps: 0,
         total: W::zero(),
     })?;
-    first_row(&mut trails.row, start, positions)
+    Ok(())
 }
 
 /// One round: the entries are replaced by those with a step more.

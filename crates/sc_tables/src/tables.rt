@@ -5,14 +5,13 @@ ghost use Rattle.std.specs.List.{AllByRecursion};
 ghost use Rattle.sc_theory.specs.Chains.{positions};
 ghost use Rattle.sc_theory.specs.Walks.{IsPolygon};
 ghost use Rattle.sc_weight.specs.Levels.{zero_levels};
-ghost use Rattle.sc_weight.specs.declared.level.WideLevel.{WideLevel as AnyWide};
 ghost use Rattle.sc_tables.specs.Totals.{closed_total, IsBelow, IsAtMost};
 ghost use Rattle.sc_tables.specs.Tables.{IsPolygonBelow};
 ghost use Rattle.sc_tables.specs.StepPrices.{AreForChain, price_in};
-ghost use Rattle.sc_tables.specs.Searches.{AreWalks, IsWideAt};
+ghost use Rattle.sc_tables.specs.Searches.{AreWalks};
 ghost use Rattle.sc_tables.specs.States.{IsDone};
 ghost use Rattle.sc_tables.specs.Trails.{AreLinked};
-ghost use Rattle.sc_tables.specs.CheapPolygons.{IsTableFault, IsClosedBelow, ShowsWide, round, total_after, PolygonIsBelow, TablesOnlyWhere, TablesFit, TablesVouch, TablesAreLeast};
+ghost use Rattle.sc_tables.specs.CheapPolygons.{IsTableFault, IsClosedBelow, NamesNode, ShowsStop, round, total_after, PolygonIsBelow, TablesOnlyWhere, TablesFit, TablesVouch, TablesAreLeast};
 
 use crate::explore::{Trails, begin, explore};
 use crate::prices::StepPrices;
@@ -20,7 +19,7 @@ use crate::search::{Node, Stop};
 use crate::splitting::polygons_of;
 use crate::trails::{append_totals, read_back};
 use sc_chain::{Chain, Polygon};
-use sc_weight::{Level, Weight, WideLevel};
+use sc_weight::{Level, Weight};
 use sc_whole::Wide;
 use std::alloc::{AllocError, AllocFailed, Global};
 use std::marker::Model;
@@ -104,19 +103,19 @@ pub enum Found<W> {
     Tables(Distances<W>),
 }
 
-/// The evidence of a total that is too wide: that of the walk of a node with a step to a position.
-fn wide_fault<W: Weight>(
+/// The fault of a search that stops. Where a total is too wide, it shows the walk of the node with the step.
+fn stop_fault<W: Weight>(
     alloc: Global,
     nodes: &[Node<W>],
-    node: usize,
-    to: usize,
-    wide: WideLevel,
+    stop: Stop,
 ) -> Result<TableFault, AllocError>
     requires linked { AreLinked nodes.now }
-    requires node { node < length nodes.now }
-    requires to { to ≤ 64 }
-    ensures { IfOk result (ShowsWide W.levels nodes.now node to wide) }
+    requires stop { NamesNode nodes.now stop }
+    ensures { IfOk result (ShowsStop W.levels nodes.now stop) }
 {
+    let Stop::Wide { node, to, wide } = stop else {
+        return Ok(TableFault::Memory);
+    };
     let mut walk = read_back(alloc, nodes, node)?;
     walk.push(to as u32)?;
     Ok(TableFault::Wide {
@@ -144,13 +143,13 @@ fn closed_walk<W: Weight>(
     ensures faults { IfErr result (IsTableFault chain.now (price_in W.levels prices.now)) }
 {
     begin(trails, start, chain.positions())?;
-    match explore(trails, chain, prices, threshold, start) {
-        Ok(None) => Ok(None),
-        Ok(Some(node)) => Ok(Some(read_back(alloc, trails.nodes.as_slice(), node)?)),
-        Err(Stop::Wide { node, to, wide }) => {
-            Err(wide_fault(alloc, trails.nodes.as_slice(), node, to, wide)?)
-        }
-        Err(Stop::Memory) => Err(TableFault::Memory),
+    let found = match explore(trails, chain, prices, threshold, start) {
+        Ok(found) => found,
+        Err(stop) => return Err(stop_fault(alloc, trails.nodes.as_slice(), stop)?),
+    };
+    match found {
+        Some(node) => Ok(Some(read_back(alloc, trails.nodes.as_slice(), node)?)),
+        None => Ok(None),
     }
 }
 
