@@ -9,6 +9,9 @@ mod splitting;
 mod tables;
 mod trails;
 
+#[cfg(test)]
+mod tests;
+
 pub use prices::{StepFault, StepPrices};
 pub use splitting::split;
 pub use tables::{Distances, Found, TableFault, cheap_polygon};
