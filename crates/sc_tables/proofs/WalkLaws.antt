@@ -147,3 +147,8 @@ places_inside c i (j ∷ js) walk = (walk.0.to, places_inside c j js walk.1)
 pub closed_inside : (c : Chain) (walk : List ℕ) → IsClosedWalk c walk → AllByRecursion (λ j. j < positions c) walk
 closed_inside c [] walk = absurd walk
 closed_inside c (i ∷ js) walk = ((last_step c i i js walk).to, places_inside c i js (walks_out c i i js walk))
+
+-- ---- a closed walk that is gone along twice
+pub closed_twice : (c : Chain) (walk : List ℕ) → IsClosedWalk c walk → IsClosedWalk c (walk ++ walk)
+closed_twice c [] walk = absurd walk
+closed_twice c (i ∷ js) walk = join c i i js i js walk walk

@@ -8,7 +8,7 @@ ghost use Rattle.sc_tables.specs.Searches.{AreWalks, IsStop, Closes, Grows, IsGr
 ghost use Rattle.sc_tables.specs.States.{IsFirstRow, IsBegun, IsDone, StopsWithin};
 
 use crate::prices::StepPrices;
-use crate::search::{Node, Stop, closing, next_row};
+use crate::search::{Node, Round, Stop, closing, next_row};
 use sc_chain::Chain;
 use sc_weight::Weight;
 use std::alloc::{AllocError, Global};
@@ -71,27 +71,24 @@ pub(crate) fn begin<W: Weight>(
 fn advance<W: Weight>(
     trails: &mut Trails<W>,
     prices: &StepPrices<W>,
-    fresh: usize,
-    start: usize,
-    steps: usize,
+    round: Round,
 ) -> Result<(), Stop>
-    requires growing { IsGrowing W.levels prices.now start steps (length trails.old.nodes.items) trails.old.nodes.items }
+    requires end { round.end ≡ length trails.old.nodes.items }
+    requires growing { IsGrowing W.levels prices.now round.start round.steps round.end trails.old.nodes.items }
     requires len { length trails.old.row.items ≡ prices.now.side }
     requires entries { AreEnds trails.old.nodes.items trails.old.row.items }
-    ensures growing { IsGrowing W.levels prices.now start steps (length trails.old.nodes.items) trails.new.nodes.items }
+    ensures growing { IsGrowing W.levels prices.now round.start round.steps round.end trails.new.nodes.items }
     ensures grows { Grows trails.old.nodes.items trails.new.nodes.items }
     ensures len { OnOk result (length trails.new.row.items ≡ prices.now.side) }
-    ensures next { OnOk result ((j : ℕ) → j < prices.now.side → IsNext W.levels prices.now trails.new.nodes.items fresh (length trails.old.nodes.items) start j (get_or trails.old.row.items j None) (get_or trails.new.row.items j None)) }
-    ensures stops { IfErr result (λ stop. (j : ℕ) × (j < prices.now.side) × IsStop W.levels prices.now trails.new.nodes.items (length trails.old.nodes.items) j stop) }
+    ensures next { OnOk result ((j : ℕ) → j < prices.now.side → IsNext W.levels prices.now trails.new.nodes.items round.fresh round.end round.start j (get_or trails.old.row.items j None) (get_or trails.new.row.items j None)) }
+    ensures stops { IfErr result (λ stop. (j : ℕ) × (j < prices.now.side) × IsStop W.levels prices.now trails.new.nodes.items round.end j stop) }
 {
     next_row(
         &mut trails.nodes,
         trails.row.as_slice(),
         &mut trails.next,
         prices,
-        fresh,
-        start,
-        steps,
+        round,
     )?;
     mem::swap(&mut trails.row, &mut trails.next);
     Ok(())
@@ -115,13 +112,19 @@ pub(crate) fn explore<W: Weight>(
     ensures stops { IfErr result (StopsWithin W.levels prices.now trails.new.nodes.items (positions chain.now)) }
 {
     let mut fresh = 0;
-    for round in 0..chain.positions() {
+    for done in 0..chain.positions() {
         let closed = closing(trails.nodes.as_slice(), prices, threshold, fresh, start)?;
         if closed.is_some() {
             return Ok(closed);
         }
         let end = trails.nodes.len();
-        advance(trails, prices, fresh, start, round + 1)?;
+        let round = Round {
+            start,
+            steps: done + 1,
+            fresh,
+            end,
+        };
+        advance(trails, prices, round)?;
         if trails.nodes.len() == end {
             return Ok(None);
         }

@@ -1,6 +1,8 @@
 //! The search for the cheapest walks from a position.
 
 ghost use Rattle.std.specs.Prelude.{◌≡◌, ◌≢◌, ◌⊎◌, ◌<◌, ◌≤◌, ◌+◌, ℕ, true, false, length, get_or, slice_get, Option, Some, None, IfOk, IfErr, OnOk, IfSome, IfNone};
+ghost use Rattle.std.specs.Ordering.{is_lt};
+ghost use Rattle.sc_weight.specs.Levels.{levels_cmp};
 ghost use Rattle.sc_tables.specs.Totals.{IsBelow, IsAtMost};
 ghost use Rattle.sc_tables.specs.Squares.{cell};
 ghost use Rattle.sc_tables.specs.Searches.{ArePlaced, IsCandidate, HasNoStep, IsStop, Under, Covers, Closes, AllReach, Grows, IsGrowing, IsEnd, IsNext, AreEnds};
@@ -60,6 +62,26 @@ impl<T: Drop> From<AllocFailed<T>> for Stop {
     }
 }
 
+/// A round of a search.
+#[derive(Clone, Copy, Debug)]
+pub(crate) struct Round {
+    /// Where the walks begin.
+    pub(crate) start: usize,
+    /// How many steps the new walks have at most.
+    pub(crate) steps: usize,
+    /// The new walks go on from those whose numbers are from this one..
+    pub(crate) fresh: usize,
+    /// .. to below this one.
+    pub(crate) end: usize,
+}
+
+/// Whether a total is below another.
+pub(crate) fn is_below<W: Weight>(total: &W, bound: &W) -> bool
+    ensures { result ≡ is_lt (levels_cmp (W.levels total.now) (W.levels bound.now)) }
+{
+    total.compare(bound).is_lt()
+}
+
 /// The walk of a node with a step to a position, if there is such a step.
 fn with_step<W: Weight>(
     nodes: &[Node<W>],
@@ -93,7 +115,7 @@ fn cheaper<W: Weight>(best: Option<Candidate<W>>, next: Option<Candidate<W>>) ->
     let (Some(old), Some(new)) = (best, next) else {
         return best.or(next);
     };
-    if new.total.compare(&old.total).is_lt() {
+    if is_below(&new.total, &old.total) {
         next
     } else {
         best
@@ -137,7 +159,7 @@ pub(crate) fn closing<W: Weight>(
     ensures stops { IfErr result (IsStop W.levels prices.now nodes.now (length nodes.now) start) }
 {
     match best_into(nodes, prices, fresh, nodes.len(), start)? {
-        Some(best) if best.total.compare(threshold).is_lt() => Ok(Some(best.node)),
+        Some(best) if is_below(&best.total, threshold) => Ok(Some(best.node)),
         _ => Ok(None),
     }
 }
@@ -149,7 +171,7 @@ fn is_better<W: Weight>(nodes: &[Node<W>], entry: Option<usize>, total: &W) -> b
     ensures kept { result ≡ false → (n : ℕ) × (x : _) × (entry ≡ Some n) × (slice_get nodes.now n ≡ Some x) × IsAtMost (W.levels x.total) (W.levels total.now) }
 {
     match entry {
-        Some(node) => total.compare(&nodes[node].total).is_lt(),
+        Some(node) => is_below(total, &nodes[node].total),
         None => true,
     }
 }
@@ -158,26 +180,23 @@ fn is_better<W: Weight>(nodes: &[Node<W>], entry: Option<usize>, total: &W) -> b
 fn next_entry<W: Weight>(
     nodes: &mut Vec<Node<W>>,
     prices: &StepPrices<W>,
-    fresh: usize,
-    end: usize,
-    start: usize,
+    round: Round,
     place: usize,
     entry: Option<usize>,
-    steps: usize,
 ) -> Result<Option<usize>, Stop>
     requires place { place < prices.now.side }
-    requires growing { IsGrowing W.levels prices.now start steps end nodes.old.items }
-    requires entry { IsEnd nodes.old.items end place entry }
-    ensures growing { IsGrowing W.levels prices.now start steps end nodes.new.items }
+    requires growing { IsGrowing W.levels prices.now round.start round.steps round.end nodes.old.items }
+    requires entry { IsEnd nodes.old.items round.end place entry }
+    ensures growing { IsGrowing W.levels prices.now round.start round.steps round.end nodes.new.items }
     ensures grows { Grows nodes.old.items nodes.new.items }
-    ensures next { IfOk result (IsNext W.levels prices.now nodes.new.items fresh end start place entry) }
-    ensures stops { IfErr result (IsStop W.levels prices.now nodes.new.items end place) }
+    ensures next { IfOk result (IsNext W.levels prices.now nodes.new.items round.fresh round.end round.start place entry) }
+    ensures stops { IfErr result (IsStop W.levels prices.now nodes.new.items round.end place) }
 {
-    if place == start {
+    if place == round.start {
         return Ok(entry);
     }
     let walks = nodes.as_slice();
-    let Some(best) = best_into(walks, prices, fresh, end, place)? else {
+    let Some(best) = best_into(walks, prices, round.fresh, round.end, place)? else {
         return Ok(entry);
     };
     if !is_better(walks, entry, &best.total) {
@@ -187,7 +206,7 @@ fn next_entry<W: Weight>(
     nodes.push(Node {
         place,
         before: best.node,
-        steps,
+        steps: round.steps,
         total: best.total,
     })?;
     Ok(Some(node))
@@ -199,25 +218,21 @@ pub(crate) fn next_row<W: Weight>(
     row: &[Option<usize>],
     next: &mut Vec<Option<usize>>,
     prices: &StepPrices<W>,
-    fresh: usize,
-    start: usize,
-    steps: usize,
+    round: Round,
 ) -> Result<(), Stop>
-    requires growing { IsGrowing W.levels prices.now start steps (length nodes.old.items) nodes.old.items }
+    requires end { round.end ≡ length nodes.old.items }
+    requires growing { IsGrowing W.levels prices.now round.start round.steps round.end nodes.old.items }
     requires len { length row.now ≡ prices.now.side }
     requires entries { AreEnds nodes.old.items row.now }
-    ensures growing { IsGrowing W.levels prices.now start steps (length nodes.old.items) nodes.new.items }
+    ensures growing { IsGrowing W.levels prices.now round.start round.steps round.end nodes.new.items }
     ensures grows { Grows nodes.old.items nodes.new.items }
     ensures len { OnOk result (length next.new.items ≡ prices.now.side) }
-    ensures next { OnOk result ((j : ℕ) → j < prices.now.side → IsNext W.levels prices.now nodes.new.items fresh (length nodes.old.items) start j (get_or row.now j None) (get_or next.new.items j None)) }
-    ensures stops { IfErr result (λ stop. (j : ℕ) × (j < prices.now.side) × IsStop W.levels prices.now nodes.new.items (length nodes.old.items) j stop) }
+    ensures next { OnOk result ((j : ℕ) → j < prices.now.side → IsNext W.levels prices.now nodes.new.items round.fresh round.end round.start j (get_or row.now j None) (get_or next.new.items j None)) }
+    ensures stops { IfErr result (λ stop. (j : ℕ) × (j < prices.now.side) × IsStop W.levels prices.now nodes.new.items round.end j stop) }
 {
-    let end = nodes.len();
     next.clear();
     for (place, entry) in row.iter().enumerate() {
-        next.push(next_entry(
-            nodes, prices, fresh, end, start, place, *entry, steps,
-        )?)?;
+        next.push(next_entry(nodes, prices, round, place, *entry)?)?;
     }
     Ok(())
 }

@@ -15,7 +15,7 @@ ghost use Rattle.sc_tables.specs.CheapPolygons.{IsTableFault, IsClosedBelow, Nam
 
 use crate::explore::{Trails, begin, explore};
 use crate::prices::StepPrices;
-use crate::search::{Node, Stop};
+use crate::search::{Node, Stop, is_below};
 use crate::splitting::polygons_of;
 use crate::trails::{append_totals, read_back};
 use sc_chain::{Chain, Polygon};
@@ -231,7 +231,7 @@ fn first_below<W: Weight>(
 {
     for polygon in polygons {
         let total = polygon_total(alloc, chain, prices, polygon.walk())?;
-        if total.compare(threshold).is_lt() {
+        if is_below(&total, threshold) {
             return Ok(polygon.copy(alloc)?);
         }
     }

@@ -228,7 +228,7 @@ fn tables_of_two_levels(rt: HostRuntime) -> Result<(), Fail> {
         }
     }
     assert_eq!(rt;
-        answer_of(rt.alloc(), b"abAB", &fine(-5), &fine(1), &fine(1))?,
+        answer_of(rt.alloc(), b"abAB", &fine(-5), &fine(1), &Pair { bulk: 0, fine: 1 })?,
         expected
     );
     let bulk = Pair { bulk: 1, fine: -9 };

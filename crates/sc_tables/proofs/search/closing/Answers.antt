@@ -9,12 +9,12 @@ pub returns-in-Some-clause-closes : goal.returns-in-Some-clause-closes
 returns-in-Some-clause-closes g c =
     let found = found-along g.W.Weight.levels c.args.prices.now c.args.nodes.now c.args.nodes.now c.args.fresh (length c.args.nodes.now) c.args.start c.in_ok-best.field-0 (Some c.in-Some.best) refl c.in-Some.is c.in_ok-best.ensures.found in
     closes_from g.W.Weight.levels c.args.prices.now c.args.nodes.now (g.W.Weight.levels c.args.threshold.now) c.args.fresh c.args.start c.in-Some.best found.1
-    (sym (ap is_lt c.compare.ensures) ∙ sym c.is_lt.ensures ∙ c.if-is_lt.true)
+    (sym c.is_below.ensures ∙ c.if-is_below.true)
 
 pub returns-in_default-clause-reach : goal.returns-in_default-clause-reach
 returns-in_default-clause-reach g c =
     reach_from g.W.Weight.levels c.args.prices.now c.args.nodes.now (g.W.Weight.levels c.args.threshold.now) c.args.fresh c.args.start c.in_ok-best.field-0 c.in-Some.best c.in-Some.is c.in_ok-best.ensures.covers
-    (sym (ap is_lt c.compare.ensures) ∙ sym c.is_lt.ensures ∙ c.if-is_lt.false)
+    (sym c.is_below.ensures ∙ c.if-is_below.false)
 
 pub returns-in_default-2-clause-reach : goal.returns-in_default-2-clause-reach
 returns-in_default-2-clause-reach g c =

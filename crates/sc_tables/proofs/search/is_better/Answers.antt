@@ -12,5 +12,5 @@ returns-in-Some-clause-kept g c = λ kept. (
       c.in-Some.is,
       slice_get_read c.args.nodes.now _ c.in-Some.node c.index-nodes-node.result refl (c.requires c.in-Some.node c.in-Some.is) c.index-nodes-node.is,
       ap (λ (x : Node g.row.W.Denot). is_lt (levels_cmp (g.W.Weight.levels c.args.total.now) (g.W.Weight.levels x.total))) c.index-nodes-node.is
-        ∙ sym (ap is_lt c.compare.ensures) ∙ sym c.is_lt.ensures ∙ kept,
+        ∙ sym c.is_below.ensures ∙ kept,
     )
