@@ -1,0 +1,5 @@
+use Rattle.sc_tables.specs.StepPrices.{AreCells}
+use Rattle.sc_tables.proofs.prices.StepPrices.build.Given as goal
+
+abbrev pub invariant-loop-cell : goal.invariant-loop-cell
+invariant-loop-cell g l = AreCells g.W.Weight.levels l.chain l.pair l.base l.side l.cell l.cells.items

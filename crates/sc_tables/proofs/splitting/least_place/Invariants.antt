@@ -1,0 +1,6 @@
+use Rattle.std.proofs.Common.{ℕ, ◌<◌, ◌≤◌, get_or, length}
+use Rattle.sc_tables.specs.Splits.{IsLeastPlace}
+use Rattle.sc_tables.proofs.splitting.least_place.Given as goal
+
+abbrev pub invariant-loop-place : goal.invariant-loop-place
+invariant-loop-place l = IsLeastPlace l.walk l.place l.least
