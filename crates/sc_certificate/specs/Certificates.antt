@@ -94,7 +94,7 @@ certificate_format =
       list = list;
       tables = tables;
       journal = journal;
-    })))))))))
+    }))))))))))
 
 -- which line of a certificate is due, and the fault of a line
 abbrev pub certificate_plan : Plan
