@@ -1,6 +1,7 @@
 -- Laws of lines, fields and numbers.
-use Rattle.std.proofs.Common.{◌≡◌, ◌≢◌, ℕ, zero, suc, ◌+◌, ◌-◌, ◌<◌, ◌≤◌, Bool, true, false, not, ◌&&◌, cond, eqb, ltb, List, [], ◌∷◌, ◌++◌, map, length, get_or, take, drop, Option, Some, None, ℤ, pos, negsuc, neg_ℤ, refl, sym, ap, subst, ◌∙◌, append_assoc, append-nil, arith, All, inl, inr}
+use Rattle.std.proofs.Common.{◌≡◌, ◌≢◌, ℕ, zero, suc, ◌+◌, ◌-◌, ◌<◌, ◌≤◌, Bool, true, false, not, ◌&&◌, cond, eqb, ltb, List, [], ◌∷◌, ◌++◌, map, length, get_or, take, drop, Option, Some, None, ℤ, pos, negsuc, neg_ℤ, ◌≤ℤ◌, refl, sym, ap, subst, ◌∙◌, append_assoc, append-nil, arith, All, inl, inr}
 use Rattle.std.specs.List.{slice_split, onto_first, position, position_or_len, join_with_byte, list_all, AllByRecursion, AllPass}
+use Rattle.std.specs.Prelude.{int_le}
 use Rattle.std.specs.Int.{IsInRange}
 use Rattle.std.specs.Int.Digits.{digits_of, number_from_digits}
 use Rattle.std.specs.Str.{bytes_eq}
@@ -10,9 +11,10 @@ use Rattle.std.proofs.lemmas.Int.Digits.{number_digits_of}
 use Rattle.std.proofs.lemmas.List.Splits.{slice_split-cons_no, slice_split_first, slice_split_at, slice_split_none, length-slice_split, join_with_byte-slice_split}
 use Rattle.std.proofs.lemmas.Slice.Eq.{bytes_eq-Decides}
 use Rattle.sc_whole.specs.Spelling.{natural_spelling, spelling}
+use Rattle.sc_theory.proofs.Decisions.{le_at}
 use Rattle.sc_whole.proofs.SpellingLaws.{first-natural_spelling, digits-natural_spelling}
 use Rattle.sc_chain.specs.declared.fault.Kind.{Kind}
-use Rattle.sc_text.specs.Faults.{named_fault}
+use Rattle.sc_text.specs.Faults.{from_to, named_fault}
 use Rattle.sc_text.specs.Lines.{Line, Field, text_of, parts, spaced, fields, natural_written, number_written, number_of, IsNarrowed, TakesNumber}
 
 -- ---- cutting at a byte
@@ -56,7 +58,7 @@ lacks c bs = list_all (λ b. not (eqb b c)) bs
 abbrev pub AllLack : ℕ → List (List ℕ) → Type 0
 AllLack c xss = AllByRecursion (λ xs. lacks c xs ≡ true) xss
 
-lacking : (c : ℕ) (bs : List ℕ) → lacks c bs ≡ true → All (λ b. eqb b c ≡ false) bs
+pub lacking : (c : ℕ) (bs : List ℕ) → lacks c bs ≡ true → All (λ b. eqb b c ≡ false) bs
 lacking c [] h k d l = absurd (omega arith)
 lacking c (b ∷ bs) h zero d l = not-true _ (and_parts _ _ h).0
 lacking c (b ∷ bs) h (suc k) d l = lacking c bs (and_parts _ _ h).1 k d (omega arith)
@@ -132,12 +134,16 @@ digits_lack c (b ∷ bs) small h =
     let other : eqb b c ≡ false = ne_eqb b c (λ e. omega arith) in
     rw other (digits_lack c bs small h.1)
 
-pub lacks-spelling : (c : ℕ) (z : ℤ) → c < 45 → lacks c (spelling z) ≡ true
+-- a spelling has no byte but digits and a minus sign
+pub lacks-spelling_but : (c : ℕ) (z : ℤ) → c < 48 → c ≢ 45 → lacks c (spelling z) ≡ true
 unfolding spelling
-lacks-spelling c (pos n) small = digits_lack c (natural_spelling n) (omega arith) (digits-natural_spelling n)
-lacks-spelling c (negsuc n) small =
-    let other : eqb 45 c ≡ false = ne_eqb 45 c (λ e. omega arith) in
-    rw other (digits_lack c (natural_spelling (suc n)) (omega arith) (digits-natural_spelling (suc n)))
+lacks-spelling_but c (pos n) small minus = digits_lack c (natural_spelling n) small (digits-natural_spelling n)
+lacks-spelling_but c (negsuc n) small minus =
+    let other : eqb 45 c ≡ false = ne_eqb 45 c (λ e. minus (sym e)) in
+    rw other (digits_lack c (natural_spelling (suc n)) small (digits-natural_spelling (suc n)))
+
+pub lacks-spelling : (c : ℕ) (z : ℤ) → c < 45 → lacks c (spelling z) ≡ true
+lacks-spelling c z small = lacks-spelling_but c z (omega arith) (λ e. omega arith)
 
 pub number_of_none : (f : Field) → ((z : ℤ) → f ≡ spelling z → ⊥) → number_of f ≡ None
 number_of_none f none =
@@ -164,3 +170,25 @@ narrowed_is value z number h e = sym (subst (IsNarrowed value) e h)
 -- the fault of a line whose first field is the name that is due
 pub named_is : (name : List ℕ) (others : List Field → Option Kind) (line : Line) (fs : List Field) → fields line ≡ name ∷ fs → named_fault name others line ≡ others fs
 named_is name others line fs e = rw (e, same_bytes name) refl
+
+-- ---- ranges
+
+le_test : (x y : ℤ) → x ≤ℤ y → int_le x y ≡ true
+le_test x y h =
+    elim (cases_Bool (int_le x y)) [
+      | inl e ↦ e
+      | inr e ↦ absurd (let none : ⊥ = rw e at h.le in none)
+    ]
+
+-- a number in a range, as the test and as the facts
+pub in_range_test : (low high z : ℤ) → low ≤ℤ z → z ≤ℤ high → from_to low high z ≡ true
+in_range_test low high z h k = and_from _ _ (le_test low z h) (le_test z high k)
+
+pub record IsFromTo (low high z : ℤ) : Type 0 where
+  pub low_end : low ≤ℤ z
+  pub high_end : z ≤ℤ high
+
+pub in_range_from_test : (low high z : ℤ) → from_to low high z ≡ true → IsFromTo low high z
+in_range_from_test low high z h =
+    let ends = and_parts (int_le low z) (int_le z high) h in
+    record { low_end = le_at low z ends.0; high_end = le_at z high ends.1 }

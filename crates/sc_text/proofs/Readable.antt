@@ -48,7 +48,7 @@ pub record IsNamed (name : List ℕ) (others : List Field → Option Kind) (fs :
   pub fields : fs ≡ name ∷ rest
   pub good : others rest ≡ None
 
-named_from : (name : List ℕ) (others : List Field → Option Kind) (fs : List Field) → cond (is_named name fs) (others (drop 1 fs)) (Some Form) ≡ None → IsNamed name others fs
+pub named_from : (name : List ℕ) (others : List Field → Option Kind) (fs : List Field) → cond (is_named name fs) (others (drop 1 fs)) (Some Form) ≡ None → IsNamed name others fs
 named_from name others [] h = absurd (none-some Form (sym h))
 named_from name others (f ∷ fs) h =
     elim (cases_Bool (bytes_eq f name)) [
@@ -56,10 +56,10 @@ named_from name others (f ∷ fs) h =
       | inr other ↦ absurd (none-some Form (sym (let fault : Some Form ≡ None = rw other at h in fault)))
     ]
 
-named_inverse : (name : List ℕ) (others : List Field → Option Kind) (line : Line) → named_fault name others line ≡ None → IsNamed name others (fields line)
+pub named_inverse : (name : List ℕ) (others : List Field → Option Kind) (line : Line) → named_fault name others line ≡ None → IsNamed name others (fields line)
 named_inverse name others line h = named_from name others (fields line) h
 
-abbrev InRanges : List NumberRange → List ℤ → Type 0
+abbrev pub InRanges : List NumberRange → List ℤ → Type 0
 InRanges [] [] = Unit {0}
 InRanges [] (z ∷ zs) = ⊥
 InRanges (r ∷ rs) [] = ⊥
@@ -87,7 +87,7 @@ numbers_from (r ∷ rs) (f ∷ fs) h k =
       }
     ] refl
 
-numbers_inverse : (rs : List NumberRange) (fs : List Field) → numbers_fault rs fs ≡ None → AreNumbers rs fs
+pub numbers_inverse : (rs : List NumberRange) (fs : List Field) → numbers_fault rs fs ≡ None → AreNumbers rs fs
 numbers_inverse rs fs h =
     elim (cases_Bool (are_numbers rs fs)) [
       | inl numbers ↦
@@ -127,7 +127,7 @@ count_from name low high line (z ∷ []) e h =
     record { count = n.natural; is = line_from_fields line _ e ∙ ap (λ (y : ℤ). spaced (name ∷ spelling y ∷ [])) n.is; low_end = n.low_end; high_end = n.high_end }
 count_from name low high line (z ∷ y ∷ zs) e h = absurd h.1
 
-count_inverse : (name : List ℕ) (low high : ℕ) (line : Line) → numbers_line_fault name (between low high ∷ []) line ≡ None → IsCountLine name low high line
+pub count_inverse : (name : List ℕ) (low high : ℕ) (line : Line) → numbers_line_fault name (between low high ∷ []) line ≡ None → IsCountLine name low high line
 count_inverse name low high line h =
     let named = named_inverse name (numbers_fault (between low high ∷ [])) line h in
     let numbers = numbers_inverse (between low high ∷ []) named.rest named.good in
@@ -153,7 +153,7 @@ side_from line (a ∷ b ∷ c ∷ []) e h =
     }
 side_from line (a ∷ b ∷ c ∷ d ∷ zs) e h = absurd h.1.1.1
 
-side_inverse : (line : Line) → side_row line ≡ None → IsSideLine line
+pub side_inverse : (line : Line) → side_row line ≡ None → IsSideLine line
 side_inverse line h =
     let rs : List NumberRange = between 0 MAX_LABEL ∷ between 0 MAX_SIDE ∷ between 0 MAX_SIDE ∷ [] in
     let named = named_inverse (codes "side") (numbers_fault rs) line h in
@@ -198,7 +198,7 @@ word_of_fields room line (f ∷ []) e h = absurd (none-some Form (sym h))
 word_of_fields room line (f ∷ letters ∷ []) e h = word_from room (number_of f) (word_of letters) line f letters e refl refl h
 word_of_fields room line (f ∷ letters ∷ g ∷ fs) e h = absurd (none-some Form (sym h))
 
-word_inverse : (room : ℕ) (line : Line) → word_row room line ≡ None → IsWordLine room line
+pub word_inverse : (room : ℕ) (line : Line) → word_row room line ≡ None → IsWordLine room line
 word_inverse room line h =
     let named = named_inverse (codes "word") (word_fields_fault room) line h in
     word_of_fields room line named.rest named.fields named.good

@@ -16,6 +16,9 @@ use Rattle.sc_text.specs.Words.{is_reduced}
 abbrev pub NumberRange : Type 0
 NumberRange = ℤ → Bool
 
+abbrev pub from_to : ℤ → ℤ → NumberRange
+from_to low high z = int_le low z && int_le z high
+
 abbrev pub between : ℕ → ℕ → NumberRange
 between low high z = int_le (pos low) z && int_le z (pos high)
 

@@ -52,6 +52,12 @@ abbrev pub IsNarrowed : ℤ → Option ℤ → Type 0
 IsNarrowed z None = FitsSigned w128 z → ⊥
 IsNarrowed z (Some x) = x ≡ z
 
+-- a field is a number
+pub record TellsNumber (field : Field) (number : Option ℤ) : Type 0 where
+  pub value : ℤ
+  pub spells : number_of field ≡ Some value
+  pub narrowed : IsNarrowed value number
+
 -- the fields of a line of which nothing may be left
 abbrev pub fields_left : Option Line → List Field
 fields_left None = []

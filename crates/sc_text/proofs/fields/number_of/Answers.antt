@@ -1,0 +1,16 @@
+use Rattle.std.proofs.Common.{refl}
+use Rattle.std.proofs.lemmas.Bool.{false≢true}
+use Rattle.sc_text.proofs.LineLaws.{number_of_from, number_of_none}
+use Rattle.sc_text.proofs.fields.number_of.Goals as goal
+
+pub returns-in-None-clause-ok : goal.returns-in-None-clause-ok
+returns-in-None-clause-ok c =
+    let found = c.if-is_decimal.ensures.0 refl in record {
+      value = found.0;
+      spells = number_of_from _ found.0 found.1;
+      narrowed = λ fits. c.in-None.ensures.refused.0 refl found.0 fits found.1;
+    }
+
+pub returns-in-None-2-clause-err : goal.returns-in-None-2-clause-err
+returns-in-None-2-clause-err c =
+    (refl, number_of_none c.args.field.now (λ z e. false≢true (c.if-is_decimal.ensures.1 (z, e))))
