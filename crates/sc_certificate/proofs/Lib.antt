@@ -1,1 +1,3 @@
 pub mod SmallLists
+pub mod FormatLaws
+pub mod PivotLaws
