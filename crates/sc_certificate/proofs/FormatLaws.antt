@@ -1,16 +1,20 @@
 -- Laws of formats: which lines are read in a format, and when a text has no fault.
 use Rattle.std.proofs.Common.{◌≡◌, ◌≢◌, ℕ, zero, suc, ◌+◌, ◌≤◌, Bool, true, false, cond, eqb, List, [], ◌∷◌, ◌++◌, map, length, Option, Some, None, is_some, refl, sym, ap, subst, ◌∙◌, append_assoc, append-nil, arith, inl, inr}
 use Rattle.std.specs.List.{AllByRecursion}
+use Rattle.std.specs.Str.{bytes_eq}
+use Rattle.std.proofs.lemmas.Slice.Eq.{bytes_eq-Decides}
 use Rattle.std.proofs.lemmas.Bool.{cases_Bool, eqb-true, false≢true}
 use Rattle.std.proofs.lemmas.List.{nil_from_length, length_push}
 use Rattle.std.proofs.lemmas.Option.{none-some, same_Some}
 use Rattle.sc_chain.specs.declared.fault.Kind.{Kind}
 use Rattle.sc_chain.specs.declared.fault.Kind.TheVariants.{Form, Ended, Rest}
 use Rattle.sc_text.specs.Lines.{Line, parts, text_of}
-use Rattle.sc_text.specs.Faults.{Plan, due_after, line_fault, part_fault, fault_at, IsFaultless}
+use Rattle.sc_text.specs.Faults.{between, literal_fault, numbers_line_fault, line_fault, part_fault, IsFaultless}
 use Rattle.sc_text.specs.Surfaces.{count_in, count_line}
-use Rattle.sc_text.specs.Formats.{Format, told, a_line, due_line, after_line, after_lines, plan_of, lines_of, IsLineKind}
-use Rattle.sc_text.proofs.LineLaws.{split_some}
+use Rattle.sc_text.specs.Formats.{Format, told, a_line, due_line, after_line, after_lines, plan_of, literal, count, lines_of, IsLineKind, IsCountInRange}
+use Rattle.sc_text.proofs.LineLaws.{split_some, lacks}
+use Rattle.sc_text.proofs.SurfaceLaws.{good_literal}
+use Rattle.sc_text.proofs.KindLaws.{count_kind}
 use Rattle.sc_text.proofs.FaultLaws.{HasRead, read_nothing, read_more, read_all, fault_at_part, ended_part}
 
 -- ---- lines that are read in a format
@@ -205,3 +209,84 @@ told_from text start (a_line fault more) before (line ∷ next ∷ others) some 
 
 pub read_if_faultless : {V : Type 0} (f : Format V) (text : List ℕ) → IsFaultless (plan_of f) text → IsTold f (parts text)
 read_if_faultless f text good = told_from text f f [] (parts text) (split_some _ text) refl refl good
+
+-- ---- one line that tells a value
+
+pub reads_line : {V A : Type 0} (fault : Line → Option Kind) (value : Line → A) (line_for : A → Line) (InRange : A → Type 0) (rest : A → Format V) (x : A)
+    → IsLineKind fault value line_for InRange → InRange x → Reads (a_line fault (λ line. rest (value line))) (line_for x ∷ []) (rest x)
+reads_line fault value line_for InRange rest x kind h = (kind.good x h, ap rest (kind.value_is x h))
+
+pub record BeginsWithValue {V A : Type 0} (line_for : A → Line) (InRange : A → Type 0) (rest : A → Format V) (lines : List Line) (g : Format V) : Type 0 where
+  pub value : A
+  pub more : List Line
+  pub are : lines ≡ line_for value ∷ more
+  pub in_range : InRange value
+  pub reads : Reads (rest value) more g
+
+pub first_value : {V A : Type 0} (fault : Line → Option Kind) (value : Line → A) (line_for : A → Line) (InRange : A → Type 0) (rest : A → Format V) (lines : List Line) (v : V)
+    → IsLineKind fault value line_for InRange → Reads (a_line fault (λ line. rest (value line))) lines (told v) → BeginsWithValue line_for InRange rest lines (told v)
+first_value fault value line_for InRange rest lines v kind r =
+    let one = first_line fault (λ line. rest (value line)) lines v r in
+    record {
+      value = value one.line;
+      more = one.more;
+      are = one.are ∙ ap (λ (l : Line). l ∷ one.more) (kind.line_is one.line one.good);
+      in_range = kind.in_range one.line one.good;
+      reads = one.reads;
+    }
+
+-- ---- a line that is due word by word
+
+pub reads_literal : {V : Type 0} (text : Line) (rest : Format V) → Reads (literal text rest) (text ∷ []) rest
+reads_literal text rest = (good_literal text, refl)
+
+literal_is : (due line : Line) → literal_fault due line ≡ None → line ≡ due
+literal_is due line h =
+    elim (cases_Bool (bytes_eq line due)) [
+      | inl same ↦ (bytes_eq-Decides line due).0 same
+      | inr other ↦ absurd (none-some Form (sym (let fault : Some Form ≡ None = rw other at h in fault)))
+    ]
+
+pub record BeginsWithText {V : Type 0} (text : Line) (rest : Format V) (lines : List Line) (g : Format V) : Type 0 where
+  pub more : List Line
+  pub are : lines ≡ text ∷ more
+  pub reads : Reads rest more g
+
+pub first_literal : {V : Type 0} (text : Line) (rest : Format V) (lines : List Line) (v : V) → Reads (literal text rest) lines (told v) → BeginsWithText text rest lines (told v)
+first_literal text rest lines v r =
+    let one = first_line (literal_fault text) (λ line. rest) lines v r in
+    record { more = one.more; are = one.are ∙ ap (λ (l : Line). l ∷ one.more) (literal_is text one.line one.good); reads = one.reads }
+
+-- ---- a count, and so many lines
+
+pub reads_counted : {V A : Type 0} (name : List ℕ) (most : ℕ) (fault : List A → Line → Option Kind) (value : Line → A) (line_for : List A → A → Line) (InRange : List A → A → Type 0) (rest : List A → Format V) (xs : List A)
+    → lacks 32 name ≡ true → AreKinds fault value line_for InRange → length xs ≤ most → AllAfter InRange [] xs
+    → Reads (count name 0 most (λ k. lines_of k fault value [] rest)) (count_line name (length xs) ∷ lines_for line_for [] xs) (rest xs)
+reads_counted name most fault value line_for InRange rest xs named kinds few all =
+    let kind = count_kind name 0 most named in
+    let first = reads_line (numbers_line_fault name (between 0 most ∷ [])) count_in (count_line name) (IsCountInRange 0 most) (λ k. lines_of k fault value [] rest) (length xs) kind (record { low_end = omega arith; high_end = few }) in
+    reads_append (count name 0 most (λ k. lines_of k fault value [] rest)) (lines_of (length xs) fault value [] rest) (rest xs) (count_line name (length xs) ∷ []) (lines_for line_for [] xs) first (reads_lines fault value line_for InRange rest [] xs kinds all)
+
+pub record BeginsWithCounted {V A : Type 0} (name : List ℕ) (most : ℕ) (line_for : List A → A → Line) (InRange : List A → A → Type 0) (rest : List A → Format V) (lines : List Line) (g : Format V) : Type 0 where
+  pub values : List A
+  pub more : List Line
+  pub are : lines ≡ count_line name (length values) ∷ (lines_for line_for [] values ++ more)
+  pub few : length values ≤ most
+  pub in_range : AllAfter InRange [] values
+  pub reads : Reads (rest values) more g
+
+pub first_counted : {V A : Type 0} (name : List ℕ) (most : ℕ) (fault : List A → Line → Option Kind) (value : Line → A) (line_for : List A → A → Line) (InRange : List A → A → Type 0) (rest : List A → Format V) (lines : List Line) (v : V)
+    → lacks 32 name ≡ true → AreKinds fault value line_for InRange → Reads (count name 0 most (λ k. lines_of k fault value [] rest)) lines (told v)
+    → BeginsWithCounted name most line_for InRange rest lines (told v)
+first_counted name most fault value line_for InRange rest lines v named kinds r =
+    let n = first_value (numbers_line_fault name (between 0 most ∷ [])) count_in (count_line name) (IsCountInRange 0 most) (λ k. lines_of k fault value [] rest) lines v (count_kind name 0 most named) r in
+    let xs = first_lines fault value line_for InRange rest n.value [] n.more v kinds n.reads in
+    let range = n.in_range in
+    record {
+      values = xs.values;
+      more = xs.more;
+      are = n.are ∙ (λ i. count_line name (sym xs.count i) ∷ xs.are i);
+      few = omega (arith, xs.count, range.high_end);
+      in_range = xs.in_range;
+      reads = xs.reads;
+    }

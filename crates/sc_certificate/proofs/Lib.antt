@@ -1,3 +1,4 @@
 pub mod SmallLists
 pub mod FormatLaws
 pub mod PivotLaws
+pub mod CertificateLaws
