@@ -2,3 +2,4 @@ pub mod SmallLists
 pub mod FormatLaws
 pub mod PivotLaws
 pub mod CertificateLaws
+pub mod TextLaws
