@@ -1,8 +1,8 @@
 -- Whether two numbers have no common divisor but 1, as a test over the numbers that may divide them.
-use Rattle.std.proofs.Common.{◌≡◌, ◌≢◌, ℕ, zero, suc, ◌+◌, ◌-◌, ◌%◌, ◌<◌, ◌≤◌, Bool, true, false, not, ◌&&◌, eqb, List, length, get_or, refl, sym, ap, subst, ◌∙◌, arith, inl, inr}
-use Rattle.std.specs.List.{list_all, range_with_len}
+use Rattle.std.proofs.Common.{◌≡◌, ℕ, ◌+◌, ◌-◌, ◌%◌, ◌<◌, ◌≤◌, Bool, true, false, not, ◌&&◌, eqb, get_or, refl, sym, ap, subst, ◌∙◌, arith, inl, inr}
+use Rattle.std.specs.List.{range_with_len}
 use Rattle.std.specs.Int.{◌∣◌, IsGcd}
-use Rattle.std.proofs.lemmas.Bool.{cases_Bool, cases_eq, and_parts, and_from, eqb-true, not-false, false≢true}
+use Rattle.std.proofs.lemmas.Bool.{cases_Bool, cases_eq, and_parts, eqb-true, not-false, false≢true}
 use Rattle.std.proofs.lemmas.List.FromFn.{length-range_with_len, get_or-range_with_len}
 use Rattle.std.proofs.lemmas.List.Sums.{AllPass-from_list_all, list_all-from_AllPass}
 use Rattle.std.proofs.lemmas.Nat.Gcd.{le_of_dvd, dvd_of_mod-eq-zero, mod-eq-zero_of_dvd, IsGcd-swap}
@@ -41,10 +41,10 @@ coprime_from_test a b some h =
     elim (cases_eq g 1) [
       | inl one ↦ subst (IsGcd a b) one gcd.1
       | inr other ↦ absurd (
-        let low : 0 < g = IsGcd-pos b a g some (IsGcd-swap a b g gcd.1) in
-        let at : get_or (range_with_len 2 (b - 1)) (g - 2) 0 ≡ 2 + (g - 2) = get_or-range_with_len 2 (b - 1) (g - 2) 0 (omega arith) in
-        let is : get_or (range_with_len 2 (b - 1)) (g - 2) 0 ≡ g = omega arith in
-        let apart : separates a b (get_or (range_with_len 2 (b - 1)) (g - 2) 0) ≡ true =
-        AllPass-from_list_all (separates a b) (range_with_len 2 (b - 1)) h (g - 2) 0 (omega (arith, length-range_with_len 2 (b - 1))) in
-        false≢true (sym (not_both a b g gcd.1.0 gcd.1.1) ∙ ap (separates a b) (sym is) ∙ apart))
+          let low : 0 < g = IsGcd-pos b a g some (IsGcd-swap a b g gcd.1) in
+          let at : get_or (range_with_len 2 (b - 1)) (g - 2) 0 ≡ 2 + (g - 2) = get_or-range_with_len 2 (b - 1) (g - 2) 0 (omega arith) in
+          let is : get_or (range_with_len 2 (b - 1)) (g - 2) 0 ≡ g = omega arith in
+          let apart : separates a b (get_or (range_with_len 2 (b - 1)) (g - 2) 0) ≡ true =
+          AllPass-from_list_all (separates a b) (range_with_len 2 (b - 1)) h (g - 2) 0 (omega (arith, length-range_with_len 2 (b - 1))) in
+          false≢true (sym (not_both a b g gcd.1.0 gcd.1.1) ∙ ap (separates a b) (sym is) ∙ apart))
     ]

@@ -1,17 +1,21 @@
 -- Laws of the entries in a row of a distance table.
-use Rattle.std.proofs.Common.{◌≡◌, ◌≢◌, ℕ, zero, suc, ◌+◌, Bool, true, false, ◌&&◌, cond, eqb, List, [], ◌∷◌, map, length, Option, Some, None, is_some, codes, ℤ, pos, neg_ℤ, ◌≤ℤ◌, refl, sym, ap, subst, ◌∙◌, arith, inl, inr}
+use Rattle.std.proofs.Common.{◌≡◌, ℕ, ◌+◌, Bool, true, false, ◌&&◌, List, [], ◌∷◌, ◌++◌, map, length, Option, Some, None, is_some, codes, ℤ, neg_ℤ, refl, sym, ap, append_assoc, ◌∙◌, arith, inl, inr}
 use Rattle.std.specs.List.{list_all, AllByRecursion}
 use Rattle.std.specs.Option.{option_map_or}
 use Rattle.std.specs.Str.{bytes_eq}
 use Rattle.std.proofs.lemmas.Bool.{cases_Bool, and_parts, and_from, false≢true}
+use Rattle.std.proofs.Math.Bool.{and-true, and-false}
+use Rattle.std.proofs.lemmas.List.{length_push, map_push}
+use Rattle.std.proofs.lemmas.List.Folds.{list_all-append}
 use Rattle.std.proofs.lemmas.Option.{none-some}
 use Rattle.std.proofs.lemmas.Slice.Eq.{bytes_eq-Decides}
 use Rattle.sc_whole.specs.Spelling.{spelling, natural_spelling}
+use Rattle.sc_chain.specs.declared.fault.Kind.TheVariants.{Form, Range}
 use Rattle.sc_text.specs.declared.limits.TheConstants.{MAX_ENTRY}
 use Rattle.sc_text.specs.Lines.{Field, number_of}
 use Rattle.sc_text.specs.PriceLines.{of_size}
-use Rattle.sc_text.specs.TableLines.{Entry, entry_field, is_entry, is_entry_in_range, entry_of, IsEntryInRange}
-use Rattle.sc_text.proofs.LineLaws.{lacks, AllLack, lacks-spelling, number_of-spelling, number_of_is, in_range_test, in_range_from_test}
+use Rattle.sc_text.specs.TableLines.{Entry, entry_field, is_entry, is_entry_in_range, entry_of, entry_fault, IsEntryInRange}
+use Rattle.sc_text.proofs.LineLaws.{All_push, lacks, AllLack, lacks-spelling, number_of-spelling, number_of_is, in_range_test, in_range_from_test}
 
 dash_is_no_number : number_of (codes "-") ≡ None
 unfolding number_of spelling natural_spelling
@@ -92,4 +96,64 @@ entries_from_tests (f ∷ fs) h k =
       told = first.told ∷ rest.told;
       are = λ i. first.is i ∷ rest.are i;
       in_range = (first.in_range, rest.in_range);
+    }
+
+-- these fields are those of the entries of a row, in range
+pub record AreRead (fs : List Field) (row : List Entry) : Type 0 where
+  pub are : fs ≡ map entry_field row
+  pub in_range : AllByRecursion IsEntryInRange row
+
+-- ---- the fields that a reader has passed, and their entries
+
+-- so many of the fields are entries, and are in range or not; where all are, the row has them
+pub record HasEntries (all left : List Field) (count : ℕ) (in_range : Bool) (row : List Entry) : Type 0 where
+  pub passed : List Field
+  pub cut : all ≡ passed ++ left
+  pub many : length passed ≡ count
+  pub are_entries : list_all is_entry passed ≡ true
+  pub are_in_range : list_all is_entry_in_range passed ≡ in_range
+  pub row_is : in_range ≡ true → AreRead passed row
+
+list_all_push : (p : Field → Bool) (fs : List Field) (f : Field) (before at : Bool) → list_all p fs ≡ before → p f ≡ at → list_all p (fs ++ f ∷ []) ≡ (before && at)
+list_all_push p fs f before at h k = list_all-append p fs (f ∷ []) ∙ (λ i. h i && (k i && true)) ∙ ap (λ (b : Bool). before && b) (and-true at)
+
+pub one_more : (all left : List Field) (count : ℕ) (in_range : Bool) (row : List Entry) (f : Field) (e : Entry) → HasEntries all (f ∷ left) count in_range row → f ≡ entry_field e → IsEntryInRange e → HasEntries all left (count + 1) in_range (row ++ e ∷ [])
+one_more all left count in_range row f e h is range =
+    let form : is_entry f ≡ true = ap is_entry is ∙ is_entry_field e in
+    let ranged : is_entry_in_range f ≡ true = ap is_entry_in_range is ∙ entry_in_range e range in record {
+      passed = h.passed ++ f ∷ [];
+      cut = h.cut ∙ sym (append_assoc h.passed (f ∷ []) left);
+      many = length_push h.passed f ∙ ap (λ (n : ℕ). n + 1) h.many;
+      are_entries = list_all_push is_entry h.passed f true true h.are_entries form;
+      are_in_range = list_all_push is_entry_in_range h.passed f in_range true h.are_in_range ranged ∙ and-true in_range;
+      row_is = λ p. record {
+        are = (λ i. (h.row_is p).are i ++ is i ∷ []) ∙ sym (map_push entry_field row e);
+        in_range = All_push IsEntryInRange row e (h.row_is p).in_range range;
+      };
+    }
+
+pub record IsOutOfRange (f : Field) : Type 0 where
+  pub entry : is_entry f ≡ true
+  pub outside : is_entry_in_range f ≡ false
+
+pub out_of_range : (f : Field) → entry_fault f ≡ Some Range → IsOutOfRange f
+out_of_range f h =
+    elim (cases_Bool (is_entry f)) [
+      | inl form ↦
+          elim (cases_Bool (is_entry_in_range f)) [
+            | inl inside ↦ absurd (none-some Range (let good : None ≡ Some Range = rw (form, inside) at h in good))
+            | inr outside ↦ record { entry = form; outside = outside }
+          ]
+      | inr other ↦ absurd (let bad : Some Form ≡ Some Range = rw other at h in cc)
+    ]
+
+pub one_wide : (all left : List Field) (count : ℕ) (in_range : Bool) (row : List Entry) (f : Field) → HasEntries all (f ∷ left) count in_range row → entry_fault f ≡ Some Range → HasEntries all left (count + 1) false row
+one_wide all left count in_range row f h fault =
+    let wide = out_of_range f fault in record {
+      passed = h.passed ++ f ∷ [];
+      cut = h.cut ∙ sym (append_assoc h.passed (f ∷ []) left);
+      many = length_push h.passed f ∙ ap (λ (n : ℕ). n + 1) h.many;
+      are_entries = list_all_push is_entry h.passed f true true h.are_entries wide.entry;
+      are_in_range = list_all_push is_entry_in_range h.passed f in_range false h.are_in_range wide.outside ∙ and-false in_range;
+      row_is = λ p. absurd (false≢true p);
     }

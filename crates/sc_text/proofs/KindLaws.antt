@@ -1,5 +1,5 @@
 -- The kinds of lines: which lines of each kind have no fault, and what they tell.
-use Rattle.std.proofs.Common.{◌≡◌, ◌≢◌, ℕ, zero, suc, ◌+◌, ◌≤◌, Bool, true, false, ◌&&◌, eqb, List, [], ◌∷◌, map, length, Option, Some, None, codes, ℤ, pos, neg_ℤ, ◌≤ℤ◌, ◌<ℤ◌, ◌++◌, unsigned_abs, refl, sym, ap, subst, ◌∙◌, arith, inl, inr}
+use Rattle.std.proofs.Common.{◌≡◌, ℕ, true, ◌&&◌, eqb, List, [], ◌∷◌, map, length, Option, Some, None, codes, ℤ, pos, neg_ℤ, ◌≤ℤ◌, ◌<ℤ◌, ◌++◌, unsigned_abs, refl, sym, ap, subst, ◌∙◌, arith, inl, inr}
 use Rattle.std.specs.List.{list_all, join_with_byte}
 use Rattle.std.proofs.lemmas.Bool.{cases_Bool, and_parts, eqb-true, eq-eqb}
 use Rattle.std.proofs.lemmas.List.{length-map}

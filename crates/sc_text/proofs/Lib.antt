@@ -7,5 +7,6 @@ pub mod Faultless
 pub mod Readable
 pub mod OneText
 pub mod CoprimeLaws
+pub mod ValueLaws
 pub mod EntryLaws
 pub mod KindLaws

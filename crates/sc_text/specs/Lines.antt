@@ -1,5 +1,5 @@
 -- Texts as lines, lines as fields, and fields as numbers.
-use Rattle.std.specs.Prelude.{◌≡◌, ℕ, ◌++◌, ◌-◌, ◌==◌, List, [], ◌∷◌, map, drop, slice_index, Option, Some, None, ℤ, pos, neg_ℤ, if◌then◌else◌, codes, FitsSigned}
+use Rattle.std.specs.Prelude.{◌≡◌, ℕ, ◌++◌, ◌-◌, ◌==◌, List, [], ◌∷◌, map, drop, slice_index, Option, Some, None, ℤ, pos, neg_ℤ, if◌then◌else◌, FitsSigned}
 use Rattle.std.specs.List.{slice_split, join_with_byte, flat_map}
 use Rattle.std.specs.Int.{w128}
 use Rattle.std.specs.Int.Digits.{number_from_digits}

@@ -1,5 +1,5 @@
 -- The line of a row of a distance table.
-use Rattle.std.specs.Prelude.{◌≡◌, ℕ, ◌==◌, ◌&&◌, Bool, true, List, [], ◌∷◌, map, drop, length, Option, Some, None, is_some, if◌then◌else◌, ℤ, pos, neg_ℤ, ◌≤ℤ◌, codes}
+use Rattle.std.specs.Prelude.{◌≡◌, ℕ, ◌==◌, ◌&&◌, Bool, true, List, ◌∷◌, map, drop, length, Option, Some, None, is_some, if◌then◌else◌, ℤ, pos, neg_ℤ, ◌≤ℤ◌, codes}
 use Rattle.std.specs.List.{list_all, AllByRecursion}
 use Rattle.std.specs.Option.{option_map_or}
 use Rattle.std.specs.Str.{bytes_eq}

@@ -48,7 +48,7 @@ fn print_letters(letters: &[Letter], out: &mut Vec<u8>) -> Result<(), AllocError
     Ok(())
 }
 
-pub(crate) fn print_field(field: Field, out: &mut Vec<u8>) -> Result<(), AllocError>
+fn print_field(field: Field, out: &mut Vec<u8>) -> Result<(), AllocError>
     requires { AreSpellable field }
     ensures ok { OnOk result (out.new.items ≡ out.old.items ++ field_of field.entry) }
     ensures err { OnErr result (AppendsPart out.old.items out.new.items (field_of field.entry)) }

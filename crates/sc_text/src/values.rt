@@ -1,12 +1,13 @@
 //! The line of a value, a fraction in lowest terms.
 
-ghost use Rattle.std.specs.Prelude.{◌≡◌, ◌++◌, Some, IfOk, IfErr, OnOk, OnErr};
+ghost use Rattle.std.specs.Prelude.{◌≡◌, ◌≤◌, ◌++◌, false, pos, Some, IfOk, IfErr, OnOk, OnErr};
+ghost use Rattle.sc_chain.specs.declared.fault.Kind.TheVariants as kinds;
 ghost use Rattle.sc_fraction.specs.Frac.{numerator, denominator, frac_text};
 ghost use Rattle.sc_text.specs.declared.limits.TheConstants.{MAX_VALUE};
 ghost use Rattle.sc_text.specs.Faults.{between};
 ghost use Rattle.sc_text.specs.Lines.{ended};
 ghost use Rattle.sc_text.specs.Printing.{AppendsPart};
-ghost use Rattle.sc_text.specs.ValueLines.{halves, fraction_fault, quotient_of, IsValueInRange};
+ghost use Rattle.sc_text.specs.ValueLines.{are_coprime, halves, fraction_fault, quotient_of, IsValueInRange};
 ghost use Rattle.sc_text.specs.ValueLines as lines;
 
 use crate::fields::{Fields, cut, in_range, number_of};
@@ -16,7 +17,24 @@ use sc_chain::Kind;
 use sc_fraction::Frac;
 use std::alloc::AllocError;
 
-// The fraction in lowest terms of a field `NUM/DEN`.
+// num/den, where it is in lowest terms.
+fn lowest(num: u32, den: u32) -> Result<Frac, Kind>
+    requires { 1 ≤ den }
+    ensures ok { IfOk result (λ v. (numerator v ≡ pos num) × (denominator v ≡ pos den)) }
+    ensures err { IfErr result (λ kind. (kind ≡ kinds.Range) × (are_coprime num den ≡ false)) }
+{
+    let den = i128::from(den);
+    let Ok(value) = Frac::new(i128::from(num), den) else {
+        return Err(Kind::Range);
+    };
+    if value.den() == den {
+        Ok(value)
+    } else {
+        Err(Kind::Range)
+    }
+}
+
+// The fraction of a field `NUM/DEN`.
 fn fraction(field: &[u8]) -> Result<Frac, Kind>
     ensures ok { IfOk result (λ v. (field.now ≡ frac_text v) × IsValueInRange (quotient_of v)) }
     ensures err { IfErr result (λ kind. fraction_fault (between 0 MAX_VALUE) (between 1 MAX_VALUE) (halves field.now) ≡ Some kind) }
@@ -26,12 +44,9 @@ fn fraction(field: &[u8]) -> Result<Frac, Kind>
     };
     let num = number_of(num)?;
     let den = number_of(den)?;
-    let num = i128::from(in_range(num, 0, MAX_VALUE)?);
-    let den = i128::from(in_range(den, 1, MAX_VALUE)?);
-    match Frac::new(num, den) {
-        Ok(value) if value.den() == den => Ok(value),
-        _ => Err(Kind::Range),
-    }
+    let num = in_range(num, 0, MAX_VALUE)?;
+    let den = in_range(den, 1, MAX_VALUE)?;
+    lowest(num, den)
 }
 
 /// The fraction of a line `value NUM/DEN`, whose numbers are those of the line.

@@ -1,7 +1,15 @@
-use Rattle.std.proofs.Common.{refl}
+use Rattle.std.proofs.Common.{refl, rules}
 use Rattle.std.proofs.lemmas.Bool.{false≢true}
 use Rattle.sc_text.proofs.LineLaws.{number_of_from, number_of_none}
 use Rattle.sc_text.proofs.fields.number_of.Goals as goal
+
+pub returns-in-Some-clause-ok : goal.returns-in-Some-clause-ok
+returns-in-Some-clause-ok c =
+    let z = c.in-Some.number in record {
+      value = z;
+      spells = number_of_from _ z c.in-Some.ensures.spelled;
+      narrowed = search rules;
+    }
 
 pub returns-in-None-clause-ok : goal.returns-in-None-clause-ok
 returns-in-None-clause-ok c =
