@@ -5,3 +5,5 @@ pub mod CertificateLaws
 pub mod TextLaws
 pub mod DueLaws
 pub mod PartLaws
+pub mod ReadChains
+pub mod ListLaws

@@ -4,4 +4,6 @@ pub mod Certificates
 pub mod Progress
 pub mod WordsRead
 pub mod SidesRead
+pub mod ListRead
+pub mod Head
 pub mod JournalRead

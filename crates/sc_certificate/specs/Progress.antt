@@ -1,5 +1,5 @@
 -- What was read of a certificate text, and what is due after it.
-use Rattle.std.specs.Prelude.{◌≡◌, ℕ, ◌+◌, ◌-◌, ◌≤◌, Bool, true, false, nat_le, if◌then◌else◌, List, [], ◌∷◌, length, Option, Some, None, is_some, ℤ, codes}
+use Rattle.std.specs.Prelude.{◌≡◌, ℕ, ◌+◌, ◌-◌, ◌≤◌, Bool, true, false, ◌&&◌, nat_le, if◌then◌else◌, List, [], ◌∷◌, length, Option, Some, None, is_some, ℤ, codes}
 use Rattle.std.specs.Option.{option_map_or}
 use Rattle.sc_theory.specs.declared.Side.{Side}
 use Rattle.sc_theory.specs.Words.{Word}
@@ -14,10 +14,10 @@ use Rattle.sc_chain.specs.declared.limits.TheConstants.{MAX_WORDS, MAX_POSITIONS
 use Rattle.sc_text.specs.declared.limits.TheConstants.{MAX_COPIES, MAX_SIDES, MAX_PIVOTS}
 use Rattle.sc_text.specs.Lines.{Line}
 use Rattle.sc_text.specs.Surfaces.{ending, word_row, side_row}
-use Rattle.sc_text.specs.PriceLines.{base_row, base_in, pair_row, pair_price_in}
+use Rattle.sc_text.specs.PriceLines.{scale_row, scale_in, base_row, base_in, pair_row, pair_price_in}
 use Rattle.sc_text.specs.ValueLines.{Quotient, value_row, value_in}
 use Rattle.sc_text.specs.TableLines.{from_row, entries_in}
-use Rattle.sc_text.specs.Formats.{Format, told, a_line, due_line, after_line, literal, count, lines_of, price_lines, word_in, side_in}
+use Rattle.sc_text.specs.Formats.{Format, told, a_line, due_line, after_line, literal, count, lines_of, word_in, side_in}
 use Rattle.sc_certificate.specs.PivotLines.{pivot_row, pivot_in}
 use Rattle.sc_certificate.specs.Sizes.{list_of}
 use Rattle.sc_certificate.specs.Certificates.{Certificate, heading}
@@ -27,6 +27,12 @@ pub record Counted (A : Type 0) : Type 0 where
   pub count : Option ℕ
   pub items : List A
 
+-- what was read of a price list
+pub record ListSoFar : Type 0 where
+  pub scale : Option ℤ
+  pub base : List ℤ
+  pub pair : List ℤ
+
 -- what was read
 pub record Progress : Type 0 where
   pub headed : Bool
@@ -34,7 +40,7 @@ pub record Progress : Type 0 where
   pub value : Option Quotient
   pub copies : Option ℕ
   pub sides : Counted Side
-  pub list : Option Prices
+  pub list : ListSoFar
   pub tables : Tables
   pub journal : Counted Pivot
   pub ended : Bool
@@ -80,12 +86,16 @@ value_due (Some q) rest = rest q
 abbrev pub sides_due : {V : Type 0} → Counted Side → (Sides → Format V) → Format V
 sides_due p rest = count_due p.count (codes "sides") 0 MAX_SIDES (λ m. items_due m (λ g. side_row) side_in p.items rest)
 
-abbrev pub list_due : {V : Type 0} → Chain → Option Prices → (Prices → Format V) → Format V
-list_due c None rest = price_lines c rest
-list_due c (Some list) rest =
-    items_due (length c) (λ prices. base_row) base_in list.base (λ base.
-    items_due (length (pairs c)) (λ prices. pair_row (pair_at c (length prices))) pair_price_in list.pair (λ pair.
-    rest (list_of list.scale base pair)))
+abbrev pub scale_due : {V : Type 0} → Option ℤ → (ℤ → Format V) → Format V
+scale_due None rest = a_line scale_row (λ line. rest (scale_in line))
+scale_due (Some d) rest = rest d
+
+abbrev pub list_due : {V : Type 0} → Chain → ListSoFar → (Prices → Format V) → Format V
+list_due c p rest =
+    scale_due p.scale (λ scale.
+    items_due (length c) (λ prices. base_row) base_in p.base (λ base.
+    items_due (length (pairs c)) (λ prices. pair_row (pair_at c (length prices))) pair_price_in p.pair (λ pair.
+    rest (list_of scale base pair))))
 
 abbrev pub tables_due : {V : Type 0} → Chain → Tables → (Tables → Format V) → Format V
 tables_due c tables rest = items_due (positions c) (λ rows. from_row (positions c) (length rows)) entries_in tables rest
@@ -124,9 +134,12 @@ one_if b = if b then 1 else 0
 abbrev pub counted_lines : {A : Type 0} → Counted A → ℕ
 counted_lines p = one_if (is_some p.count) + length p.items
 
-abbrev pub list_lines_read : Option Prices → ℕ
-list_lines_read None = 0
-list_lines_read (Some list) = 1 + length list.base + length list.pair
+-- the same of a price list, for so many words and inverse pairs
+abbrev pub is_whole_list : ℕ → ℕ → ListSoFar → Bool
+is_whole_list words pairs p = is_some p.scale && nat_le words (length p.base) && nat_le pairs (length p.pair)
+
+abbrev pub list_lines_read : ListSoFar → ℕ
+list_lines_read p = one_if (is_some p.scale) + length p.base + length p.pair
 
 unfoldable pub lines_read : Progress → ℕ
 lines_read p =

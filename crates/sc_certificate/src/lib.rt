@@ -1,8 +1,10 @@
 //! The text of a certificate: a surface with a price list, the tables that vouch for the list, and the journal of a solver.
 #![tactic(auto)]
 
+mod head;
 mod journal;
 mod laws;
+mod list;
 mod pivots;
 mod price_list;
 mod sides;
