@@ -7,3 +7,4 @@ pub mod DueLaws
 pub mod PartLaws
 pub mod ReadChains
 pub mod ListLaws
+pub mod BodyLaws

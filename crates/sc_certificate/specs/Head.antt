@@ -1,13 +1,9 @@
 -- What is known once the line of the value was read.
 use Rattle.std.specs.Prelude.{◌≡◌}
-use Rattle.sc_theory.specs.Chains.{Chain}
 use Rattle.sc_theory.specs.Prices.{pairs}
-use Rattle.sc_text.specs.ValueLines.{Quotient, quotient_of}
+use Rattle.sc_text.specs.ValueLines.{quotient_of}
+use Rattle.sc_certificate.specs.Progress.{ChainAndValue}
 use Rattle.sc_certificate.specs.declared.head.Head.TheInside.{Inside}
-
-pub record ChainAndValue : Type 0 where
-  pub chain : Chain
-  pub value : Quotient
 
 abbrev pub chain_and_value : Inside → ChainAndValue
 chain_and_value h = record { chain = h.chain; value = quotient_of h.value }

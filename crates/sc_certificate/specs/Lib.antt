@@ -4,6 +4,7 @@ pub mod Certificates
 pub mod Progress
 pub mod WordsRead
 pub mod SidesRead
+pub mod BodyRead
 pub mod ListRead
 pub mod Head
 pub mod JournalRead

@@ -33,17 +33,26 @@ pub record ListSoFar : Type 0 where
   pub base : List ℤ
   pub pair : List ℤ
 
--- what was read
-pub record Progress : Type 0 where
-  pub headed : Bool
-  pub words : Counted (ℕ × Word)
-  pub value : Option Quotient
+-- what was read of the lines behind the value
+pub record BodySoFar : Type 0 where
   pub copies : Option ℕ
   pub sides : Counted Side
   pub list : ListSoFar
   pub tables : Tables
   pub journal : Counted Pivot
   pub ended : Bool
+
+-- what was read of a certificate
+pub record Progress : Type 0 where
+  pub headed : Bool
+  pub words : Counted (ℕ × Word)
+  pub value : Option Quotient
+  pub body : BodySoFar
+
+-- a chain and a value
+pub record ChainAndValue : Type 0 where
+  pub chain : Chain
+  pub value : Quotient
 
 -- ---- the fault of a line, and of the bytes behind the last line, where this is due
 
@@ -103,24 +112,27 @@ tables_due c tables rest = items_due (positions c) (λ rows. from_row (positions
 abbrev pub journal_due : {V : Type 0} → Chain → Counted Pivot → (List Pivot → Format V) → Format V
 journal_due c p rest = count_due p.count (codes "pivots") 0 MAX_PIVOTS (λ k. items_due k (λ before. pivot_row c) pivot_in p.items rest)
 
-unfoldable pub due_of : Progress → Format Certificate
-due_of p =
-    text_due p.headed heading (words_due p.words (λ c.
-    value_due p.value (λ value.
-    count_due p.copies (codes "copies") 1 MAX_COPIES (λ n.
-    sides_due p.sides (λ g.
-    list_due c p.list (λ list.
-    tables_due c p.tables (λ tables.
-    journal_due c p.journal (λ journal.
-    text_due p.ended ending (told (record {
-      chain = c;
-      value = value;
+unfoldable pub body_due : ChainAndValue → BodySoFar → Format Certificate
+body_due h b =
+    count_due b.copies (codes "copies") 1 MAX_COPIES (λ n.
+    sides_due b.sides (λ g.
+    list_due h.chain b.list (λ list.
+    tables_due h.chain b.tables (λ tables.
+    journal_due h.chain b.journal (λ journal.
+    text_due b.ended ending (told (record {
+      chain = h.chain;
+      value = h.value;
       copies = n;
       sides = g;
       list = list;
       tables = tables;
       journal = journal;
-    }))))))))))
+    })))))))
+
+unfoldable pub due_of : Progress → Format Certificate
+due_of p =
+    text_due p.headed heading (words_due p.words (λ c.
+    value_due p.value (λ value. body_due (record { chain = c; value = value }) p.body)))
 
 -- ---- how many lines were read
 
@@ -141,6 +153,8 @@ is_whole_list words pairs p = is_some p.scale && nat_le words (length p.base) &&
 abbrev pub list_lines_read : ListSoFar → ℕ
 list_lines_read p = one_if (is_some p.scale) + length p.base + length p.pair
 
-unfoldable pub lines_read : Progress → ℕ
-lines_read p =
-    one_if p.headed + counted_lines p.words + one_if (is_some p.value) + one_if (is_some p.copies) + counted_lines p.sides + list_lines_read p.list + length p.tables + counted_lines p.journal + one_if p.ended
+abbrev pub body_lines : BodySoFar → ℕ
+body_lines b = one_if (is_some b.copies) + counted_lines b.sides + list_lines_read b.list + length b.tables + counted_lines b.journal + one_if b.ended
+
+abbrev pub lines_read : Progress → ℕ
+lines_read p = one_if p.headed + counted_lines p.words + one_if (is_some p.value) + body_lines p.body

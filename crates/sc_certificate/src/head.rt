@@ -24,7 +24,7 @@ pub struct Head {
 }
 
 impl Model for Head {
-    ghost use Rattle.sc_certificate.specs.Head.{ChainAndValue};
+    ghost use Rattle.sc_certificate.specs.Progress.{ChainAndValue};
 
     ghost Value = { ChainAndValue };
 

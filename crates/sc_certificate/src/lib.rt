@@ -1,6 +1,7 @@
 //! The text of a certificate: a surface with a price list, the tables that vouch for the list, and the journal of a solver.
 #![tactic(auto)]
 
+mod body;
 mod head;
 mod journal;
 mod laws;
