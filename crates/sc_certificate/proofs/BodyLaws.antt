@@ -1,7 +1,8 @@
 -- What a line behind the value does.
-use Rattle.std.proofs.Common.{◌≡◌, ℕ, ◌+◌, ◌-◌, ◌<◌, ◌≤◌, Bool, true, false, not, ◌&&◌, leb, List, [], ◌∷◌, length, Option, Some, None, is_some, codes, ℤ, pos, refl, sym, ap, subst, ◌∙◌, arith}
+use Rattle.std.proofs.Common.{◌≡◌, ℕ, ◌+◌, ◌-◌, ◌<◌, ◌≤◌, Bool, true, false, not, ◌&&◌, leb, List, [], ◌∷◌, length, Option, Some, None, is_some, codes, ℤ, pos, refl, sym, ap, subst, ◌∙◌, arith, inl, inr}
 use Rattle.std.specs.Option.{unwrap_or}
-use Rattle.std.proofs.lemmas.Bool.{and_parts, leb-true, false≢true}
+use Rattle.std.proofs.lemmas.Bool.{cases_Bool, and_parts, and_from, leb-true, leb-false, false≢true}
+use Rattle.std.proofs.lemmas.Option.{same_Some}
 use Rattle.sc_theory.specs.declared.Side.{Side}
 use Rattle.sc_theory.specs.Chains.{Chain, positions}
 use Rattle.sc_theory.specs.Fatgraphs.{Sides}
@@ -18,12 +19,12 @@ use Rattle.sc_text.specs.Faults.{between, literal_fault, numbers_line_fault}
 use Rattle.sc_text.specs.Surfaces.{ending, count_line, side_row}
 use Rattle.sc_text.specs.PriceLines.{base_row, base_in, pair_row, pair_price_in}
 use Rattle.sc_text.specs.TableLines.{from_row, entries_in}
-use Rattle.sc_text.specs.Formats.{Format, told, a_line, side_in}
+use Rattle.sc_text.specs.Formats.{Format, told, a_line, due_line, side_in}
 use Rattle.sc_certificate.specs.PivotLines.{pivot_row, pivot_in}
 use Rattle.sc_certificate.specs.Sizes.{list_of}
 use Rattle.sc_certificate.specs.Certificates.{Certificate}
-use Rattle.sc_certificate.specs.Progress.{Counted, ListSoFar, BodySoFar, ChainAndValue, Steps, fault_due, text_due, count_due, items_due, scale_due, sides_due, list_due, tables_due, journal_due, body_due, is_whole, is_whole_list}
-use Rattle.sc_certificate.proofs.DueLaws.{steps_along, count_step, text_step, items_all, counted_all}
+use Rattle.sc_certificate.specs.Progress.{Counted, ListSoFar, BodySoFar, ChainAndValue, Steps, fault_due, text_due, count_due, items_due, scale_due, sides_due, list_due, tables_due, journal_due, body_due, is_whole, is_whole_list, is_whole_body}
+use Rattle.sc_certificate.proofs.DueLaws.{steps_along, count_step, text_step, items_all, items_some, counted_all, counted_some}
 
 -- a price list of which all was read
 abbrev pub list_told : ListSoFar → Prices
@@ -60,7 +61,7 @@ module _ (h : ChainAndValue) where
   sides_rest s l t j ended n = sides_due s (list_rest n l t j ended)
 
 -- the copies, where they were read
-abbrev copies_told : Option ℕ → ℕ
+abbrev pub copies_told : Option ℕ → ℕ
 copies_told copies = unwrap_or copies 0
 
 some_copies : (copies : Option ℕ) → is_some copies ≡ true → copies ≡ Some (copies_told copies)
@@ -164,3 +165,100 @@ module _ (h : ChainAndValue) (p : BodySoFar) (copies : Option ℕ) (s : Counted 
   pub nothing_due : is_some copies ≡ true → is_whole s ≡ true → is_whole_list (length h.chain) (length (pairs h.chain)) l ≡ true → positions h.chain ≤ length t → is_whole j ≡ true → ended ≡ true → fault_due (body_due h p) line ≡ Some Rest
   nothing_due some sides list tables journal all =
       ap (λ (f : Format Certificate). fault_due f line) (sym (ap (body_due h) shows) ∙ at_end h copies s l t j ended some sides list tables journal ∙ ap (λ (b : Bool). end_rest h (copies_told copies) s.items (list_told l) t b j.items) all)
+
+-- ---- whether all was read
+
+pub list_some : {V : Type 0} (c : Chain) (scale : Option ℤ) (base pair : List ℤ) (rest : Prices → Format V) → is_whole_list (length c) (length (pairs c)) (record { scale = scale; base = base; pair = pair }) ≡ false
+    → is_some (due_line (list_due c (record { scale = scale; base = base; pair = pair }) rest)) ≡ true
+list_some c None base pair rest h = refl
+list_some c (Some d) base pair rest h =
+    let left = λ (zs : List ℤ). items_due (length (pairs c)) (λ (prices : List ℤ). pair_row (pair_at c (length prices))) pair_price_in pair (λ ys. rest (list_of d zs ys)) in
+    elim (cases_Bool (leb (length c) (length base))) [
+      | inl all ↦
+          elim (cases_Bool (leb (length (pairs c)) (length pair))) [
+            | inl most ↦ absurd (false≢true (sym h ∙ and_from (leb (length c) (length base)) (leb (length (pairs c)) (length pair)) all most))
+            | inr less ↦
+                ap (λ (f : Format _). is_some (due_line f)) (items_all (length c) (λ prices. base_row) base_in base left (leb-true _ _ all))
+                ∙ items_some (length (pairs c)) (λ (prices : List ℤ). pair_row (pair_at c (length prices))) pair_price_in pair (λ ys. rest (list_of d base ys)) (leb-false _ _ less)
+          ]
+      | inr less ↦ items_some (length c) (λ prices. base_row) base_in base left (leb-false _ _ less)
+    ]
+
+abbrev is_due : Format Certificate → Bool
+is_due f = is_some (due_line f)
+
+pub record IsWholeBody (h : ChainAndValue) (b : BodySoFar) : Type 0 where
+  pub some : is_some b.copies ≡ true
+  pub sides : is_whole b.sides ≡ true
+  pub list : is_whole_list (length h.chain) (length (pairs h.chain)) b.list ≡ true
+  pub tables : leb (positions h.chain) (length b.tables) ≡ true
+  pub journal : is_whole b.journal ≡ true
+  pub ended : b.ended ≡ true
+
+pub whole_body : (h : ChainAndValue) (b : BodySoFar) → is_whole_body h b ≡ true → IsWholeBody h b
+whole_body h b e =
+    let list = is_whole_list (length h.chain) (length (pairs h.chain)) b.list in
+    let tables = leb (positions h.chain) (length b.tables) in
+    let five = and_parts (is_some b.copies && is_whole b.sides && list && tables && is_whole b.journal) b.ended e in
+    let four = and_parts (is_some b.copies && is_whole b.sides && list && tables) (is_whole b.journal) five.0 in
+    let three = and_parts (is_some b.copies && is_whole b.sides && list) tables four.0 in
+    let two = and_parts (is_some b.copies && is_whole b.sides) list three.0 in
+    let one = and_parts (is_some b.copies) (is_whole b.sides) two.0 in
+    record { some = one.0; sides = one.1; list = two.1; tables = three.1; journal = four.1; ended = five.1 }
+
+body_test : (h : ChainAndValue) (b : BodySoFar) → IsWholeBody h b → is_whole_body h b ≡ true
+body_test h b w = rw (w.some, w.sides, w.list, w.tables, w.journal, w.ended) refl
+
+module _ (h : ChainAndValue) (copies : Option ℕ) (s : Counted Side) (l : ListSoFar) (t : Tables) (j : Counted Pivot) (ended : Bool) where
+  pub finished : is_whole_body h (body copies s l t j ended) ≡ true
+      → body_due h (body copies s l t j ended) ≡ told (record { chain = h.chain; value = h.value; copies = copies_told copies; sides = s.items; list = list_told l; tables = t; journal = j.items })
+  finished e =
+      let w = whole_body h (body copies s l t j ended) e in
+      at_end h copies s l t j ended w.some w.sides w.list (leb-true _ _ w.tables) w.journal ∙ ap (λ (b : Bool). end_rest h (copies_told copies) s.items (list_told l) t b j.items) w.ended
+
+  pub unfinished : is_whole_body h (body copies s l t j ended) ≡ false → is_due (body_due h (body copies s l t j ended)) ≡ true
+  unfinished e =
+      elim (cases_Bool (is_some copies)) [
+        | inr none ↦ ap is_due (at_copies h copies s l t j ended none)
+        | inl some ↦
+            elim (cases_Bool (is_whole s)) [
+              | inr sides ↦ ap is_due (at_sides h copies s l t j ended some) ∙ counted_some (codes "sides") MAX_SIDES (λ g. side_row) side_in (list_rest h (copies_told copies) l t j ended) s sides
+              | inl sides ↦
+                  elim (cases_Bool (is_whole_list (length h.chain) (length (pairs h.chain)) l)) [
+                    | inr list ↦ ap is_due (at_list h copies s l t j ended some sides) ∙ list_some h.chain l.scale l.base l.pair (tables_rest h (copies_told copies) s.items t j ended) list
+                    | inl list ↦
+                        elim (cases_Bool (leb (positions h.chain) (length t))) [
+                          | inr tables ↦
+                              ap is_due (at_tables h copies s l t j ended some sides list)
+                              ∙ items_some (positions h.chain) (λ (rows : Tables). from_row (positions h.chain) (length rows)) entries_in t (journal_rest h (copies_told copies) s.items (list_told l) j ended) (leb-false _ _ tables)
+                          | inl tables ↦
+                              elim (cases_Bool (is_whole j)) [
+                                | inr journal ↦
+                                    ap is_due (at_journal h copies s l t j ended some sides list (leb-true _ _ tables))
+                                    ∙ counted_some (codes "pivots") MAX_PIVOTS (λ before. pivot_row h.chain) pivot_in (end_rest h (copies_told copies) s.items (list_told l) t ended) j journal
+                                | inl journal ↦
+                                    elim (cases_Bool ended) [
+                                      | inr open_end ↦ ap is_due (at_end h copies s l t j ended some sides list (leb-true _ _ tables) journal ∙ ap (λ (b : Bool). end_rest h (copies_told copies) s.items (list_told l) t b j.items) open_end)
+                                      | inl all ↦ absurd (false≢true (sym e ∙ body_test h (body copies s l t j ended) (record { some = some; sides = sides; list = list; tables = tables; journal = journal; ended = all })))
+                                    ]
+                              ]
+                        ]
+                  ]
+            ]
+      ]
+
+scale_some : (w n : ℕ) (scale : Option ℤ) (base pair : List ℤ) → is_whole_list w n (record { scale = scale; base = base; pair = pair }) ≡ true → scale ≡ Some (unwrap_or scale (pos 0))
+scale_some w n None base pair h = absurd (false≢true (and_parts (is_some {T = ℤ} None && leb w (length base)) (leb n (length pair)) h).0)
+scale_some w n (Some d) base pair h = refl
+
+-- what is told, by its parts
+pub told_by_parts : (h : ChainAndValue) (p : BodySoFar) (copies : Option ℕ) (s : Counted Side) (l : ListSoFar) (t : Tables) (j : Counted Pivot) (ended : Bool) (v : Certificate) → body copies s l t j ended ≡ p → is_whole_body h p ≡ true
+    → v.chain ≡ h.chain → v.value ≡ h.value → copies ≡ Some v.copies → v.sides ≡ s.items → ((d : ℤ) → l.scale ≡ Some d → Some v.list ≡ Some (list_of d l.base l.pair)) → v.tables ≡ t → v.journal ≡ j.items → body_due h p ≡ told v
+told_by_parts h p copies s l t j ended v shows whole chain value some sides list tables journal =
+    let here : is_whole_body h (body copies s l t j ended) ≡ true = subst (λ (q : BodySoFar). is_whole_body h q ≡ true) (sym shows) whole in
+    let w = whole_body h (body copies s l t j ended) here in
+    let scale = scale_some (length h.chain) (length (pairs h.chain)) l.scale l.base l.pair w.list in
+    let prices : v.list ≡ list_told l = same_Some _ _ (list (unwrap_or l.scale (pos 0)) scale) in
+    let count : v.copies ≡ copies_told copies = sym (ap (λ (o : Option ℕ). copies_told o) some) in
+    sym (ap (body_due h) shows) ∙ finished h copies s l t j ended here
+    ∙ (λ i. told (record { chain = sym chain i; value = sym value i; copies = sym count i; sides = sym sides i; list = sym prices i; tables = sym tables i; journal = sym journal i }))

@@ -8,3 +8,4 @@ pub mod PartLaws
 pub mod ReadChains
 pub mod ListLaws
 pub mod BodyLaws
+pub mod ReaderLaws

@@ -150,6 +150,14 @@ counted_lines p = one_if (is_some p.count) + length p.items
 abbrev pub is_whole_list : ℕ → ℕ → ListSoFar → Bool
 is_whole_list words pairs p = is_some p.scale && nat_le words (length p.base) && nat_le pairs (length p.pair)
 
+-- and whether all lines behind the value were read
+abbrev pub is_whole_body : ChainAndValue → BodySoFar → Bool
+is_whole_body h b =
+    is_some b.copies && is_whole b.sides && is_whole_list (length h.chain) (length (pairs h.chain)) b.list
+    && nat_le (positions h.chain) (length b.tables)
+    && is_whole b.journal
+    && b.ended
+
 abbrev pub list_lines_read : ListSoFar → ℕ
 list_lines_read p = one_if (is_some p.scale) + length p.base + length p.pair
 

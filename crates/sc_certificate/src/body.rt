@@ -1,14 +1,16 @@
 //! Reads the lines of a certificate behind its value.
 
-ghost use Rattle.std.specs.Prelude.{◌≡◌, ◌≤◌, ◌<◌, ◌+◌, ◌*◌, [], false, is_none, length, Some, IfErr, IfOk, IfNone, IsNone, None, OnOk, OnErr};
+ghost use Rattle.std.specs.Prelude.{◌≡◌, ◌≤◌, ◌<◌, ◌+◌, ◌*◌, [], true, false, is_some, length, Some, IfErr, IfSome, IfNone, None, OnOk, OnErr};
 ghost use Rattle.sc_theory.specs.Chains.{Chain, positions};
 ghost use Rattle.sc_theory.specs.Prices.{Tables as AnyTables};
 ghost use Rattle.sc_chain.specs.declared.limits.TheConstants.{MAX_POSITIONS};
 ghost use Rattle.sc_text.specs.LineFaults.{IsFault};
 ghost use Rattle.sc_text.specs.Formats.{Format, told, due_line};
 ghost use Rattle.sc_certificate.specs.Certificates.{Certificate};
-ghost use Rattle.sc_certificate.specs.Progress.{Steps, fault_due, tables_due, body_due, body_lines};
+ghost use Rattle.sc_certificate.specs.Progress.{Steps, fault_due, tables_due, body_due, body_lines, is_whole_body};
+ghost use Rattle.sc_certificate.specs.Texts.{certificate_of};
 
+use crate::certificate::CertificateText;
 use crate::head::Head;
 use crate::journal::JournalReader;
 use crate::list::ListReader;
@@ -125,5 +127,44 @@ impl Body {
             return Ok(());
         }
         Err(LineFault::Malformed(Kind::Rest))
+    }
+
+    // Whether all lines were read, behind this chain.
+    fn is_whole(&self, head: &Head) -> bool
+        ensures { result ≡ is_whole_body head.now self.now }
+    {
+        self.copies.is_some() && self.sides.is_whole()
+            && self.list.is_whole(head.chain().words(), head.pairs().count())
+            && self.tables.rows() >= head.chain().positions()
+            && self.journal.is_whole()
+            && self.ended
+    }
+
+    /// The certificate, if all its lines were read.
+    pub fn finish(self, head: Head) -> Option<CertificateText>
+        ensures told { IfSome result (λ t. body_due head self ≡ told (certificate_of t)) }
+        ensures due { IfNone result (is_some (due_line (body_due head self)) ≡ true) }
+    {
+        if !self.is_whole(&head) {
+            return None;
+        }
+        let Body {
+            copies,
+            sides,
+            list,
+            tables,
+            journal,
+            ended: _,
+        } = self;
+        let (chain, value) = head.into_parts();
+        Some(CertificateText {
+            chain,
+            value,
+            copies: copies?,
+            sides: sides.sides(),
+            list: list.list()?,
+            tables,
+            journal: journal.pivots(),
+        })
     }
 }
