@@ -9,3 +9,4 @@ pub mod ReadChains
 pub mod ListLaws
 pub mod BodyLaws
 pub mod ReaderLaws
+pub mod ReadTexts

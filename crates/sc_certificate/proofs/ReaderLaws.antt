@@ -1,6 +1,7 @@
 -- What a line of a certificate does.
-use Rattle.std.proofs.Common.{◌≡◌, ℕ, ◌-◌, Bool, true, false, eqb, List, [], ◌∷◌, ◌++◌, length, Option, Some, None, is_some, codes, refl, sym, ap, subst, ◌∙◌, arith}
-use Rattle.std.proofs.lemmas.Bool.{false≢true}
+use Rattle.std.proofs.Common.{◌≡◌, ℕ, ◌-◌, Bool, true, false, eqb, List, [], ◌∷◌, ◌++◌, length, Option, Some, None, is_some, codes, refl, sym, ap, subst, ◌∙◌, arith, inl, inr}
+use Rattle.std.specs.Prelude.{IfSome, IfNone}
+use Rattle.std.proofs.lemmas.Bool.{cases_Bool, false≢true}
 use Rattle.sc_theory.specs.Words.{Word}
 use Rattle.sc_theory.specs.Chains.{Chain, positions}
 use Rattle.sc_theory.specs.Fatgraphs.{Sides}
@@ -24,7 +25,7 @@ use Rattle.sc_text.specs.ValueLines.{Quotient, value_row, value_in}
 use Rattle.sc_text.specs.Formats.{Format, told, a_line, due_line, literal, count, lines_of, word_in, side_in}
 use Rattle.sc_certificate.specs.Certificates.{Certificate, heading, certificate_format}
 use Rattle.sc_certificate.specs.Progress.{Counted, ListSoFar, BodySoFar, Progress, ChainAndValue, Steps, fault_due, end_fault, text_due, words_due, value_due, body_due, due_of, is_whole}
-use Rattle.sc_certificate.proofs.DueLaws.{steps_along, text_step, counted_all}
+use Rattle.sc_certificate.proofs.DueLaws.{steps_along, text_step, counted_all, counted_some}
 
 abbrev pub progress : Bool → Counted (ℕ × Word) → Option Quotient → BodySoFar → Progress
 progress headed words value body = record { headed = headed; words = words; value = value; body = body }
@@ -133,3 +134,35 @@ nothing_read i =
     lines_of (less_none (positions c) i) (λ rows. from_row (positions c) (length rows)) entries_in [] (λ tables.
     count (codes "pivots") 0 MAX_PIVOTS (λ k. lines_of (less_none k i) (λ before. pivot_row c) pivot_in [] (λ journal.
     literal ending (told (make c (value_in q) n g (list_of (scale_in scale) base pair) tables journal)))))))))))))))
+
+-- ---- options
+
+pub if_some : {T : Type 0} (P : T → Type 0) (o : Option T) (x : T) → IfSome o P → o ≡ Some x → P x
+if_some P o x h e = subst (λ (q : Option _). IfSome q P) e h
+
+pub some_weaker : {T : Type 0} (o : Option T) (P Q : T → Type 0) → ((x : T) → P x → Q x) → IfSome o P → IfSome o Q
+some_weaker None P Q f h = tt
+some_weaker (Some x) P Q f h = f x h
+
+pub none_weaker : {T : Type 0} {P Q : Type 0} (o : Option T) → (P → Q) → IfNone o P → IfNone o Q
+none_weaker None f h = f h
+none_weaker (Some x) f h = tt
+
+pub if_none : {T : Type 0} {P : Type 0} (o : Option T) → P → IfNone o P
+if_none None p = p
+if_none (Some x) p = tt
+
+-- where no value was read a line is due
+pub headless : (p : Progress) (w : Counted (ℕ × Word)) (v : Option Quotient) (b : BodySoFar) (headed : Bool) → progress headed w v b ≡ p → v ≡ None → headed ≡ true → is_some (due_line (due_of p)) ≡ true
+headless p w v b headed shows none h =
+    ap (λ (q : Progress). is_some (due_line (due_of q))) (sym shows)
+    ∙ elim (cases_Bool (is_whole w)) [
+      | inl all ↦ valueless headed w v b h all none
+      | inr more ↦ ap (λ (f : Format Certificate). is_some (due_line f)) (at_words headed w v b h) ∙ counted_some (codes "words") MAX_WORDS (λ c. word_row (MAX_POSITIONS - positions c)) word_in (value_rest v b) w more
+    ]
+
+pub unheaded_is : (p : Progress) (w : Counted (ℕ × Word)) (v : Option Quotient) (b : BodySoFar) (headed : Bool) → progress headed w v b ≡ p → headed ≡ false → is_some (due_line (due_of p)) ≡ true
+unheaded_is p w v b headed shows h = ap (λ (q : Progress). is_some (due_line (due_of q))) (sym shows) ∙ unheaded headed w v b h
+
+pub body_is : (p : Progress) (w : Counted (ℕ × Word)) (v : Option Quotient) (b : BodySoFar) (headed : Bool) → progress headed w v b ≡ p → headed ≡ true → is_whole w ≡ true → (h : ChainAndValue) → v ≡ Some h.value → h.chain ≡ w.items → due_of p ≡ body_due h b
+body_is p w v b headed shows e all h some chain = sym (ap due_of shows) ∙ at_body headed w v b e all h some chain
