@@ -10,3 +10,6 @@ pub mod ReadingLaws
 pub mod WordLists
 pub mod PairLists
 pub mod PairLaws
+pub mod PairTables
+pub mod PolygonLaws
+pub mod Marks

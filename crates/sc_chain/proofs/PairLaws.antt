@@ -2,7 +2,7 @@
 use Rattle.std.proofs.Common.{◌≡◌, ℕ, ◌<◌, ◌≤◌, Bool, true, false, not, ◌&&◌, ltb, List, length, get_or, Option, Some, None, IsSome, ◌↔◌, ℤ, pos, neg_ℤ, inl, inr, ◌⊎◌, arith, refl, sym, ap, subst, ◌∙◌}
 use Rattle.std.specs.Option.{option_map, option_or}
 use Rattle.std.specs.List.{AllByRecursion}
-use Rattle.std.proofs.lemmas.Bool.{cases_lt, cases_order, false≢true, and_parts, and_from, ltb-true, lt-ltb, le-ltb, cond-true, cond-false}
+use Rattle.std.proofs.lemmas.Bool.{cases_lt, cases_order, false≢true, and_parts, and_from, and_left, ltb-true, lt-ltb, le-ltb, cond-true, cond-false}
 use Rattle.std.proofs.lemmas.List.{get_or_past}
 use Rattle.sc_theory.specs.declared.Letter.{Letter}
 use Rattle.sc_theory.specs.Words.{inverse_letter, is_inverse}
@@ -20,6 +20,15 @@ pub record IsInversePair (c : Chain) (p q : ℕ) : Type 0 where
   pub ordered : p < q
   pub in_range : q < positions c
   pub inverse : letter c q ≡ inverse_letter (letter c p)
+
+-- the test of a pair whose first number is less
+pub pair_test : (c : Chain) (p q : ℕ) (x y : Letter) (b : Bool) → p < q → x ≡ letter c p → y ≡ letter c q → b ≡ is_inverse x y → is_pair c p q ≡ b
+pair_test c p q x y b h ex ey e =
+    ap (λ (t : Bool). t && is_inverse (letter c p) (letter c q)) (lt-ltb p q h)
+    ∙ sym (e ∙ ap (λ (z : Letter). is_inverse z y) ex ∙ ap (is_inverse (letter c p)) ey)
+
+pub pair_test_above : (c : Chain) (p q : ℕ) → q ≤ p → is_pair c p q ≡ false
+pair_test_above c p q h = and_left (ltb p q) (is_inverse (letter c p) (letter c q)) (le-ltb p q h)
 
 pair_from_test : (c : Chain) (p q : ℕ) → q < positions c → is_pair c p q ≡ true → IsInversePair c p q
 pair_from_test c p q inside e =
@@ -56,10 +65,10 @@ pair_of_place c p q h =
 
 -- ---- rows
 
-place_in-yes : (ps : List (ℕ × ℕ)) (p q : ℕ) → IsIn ps p q → place_in ps p q ≡ Some (place_of ps p q)
+pub place_in-yes : (ps : List (ℕ × ℕ)) (p q : ℕ) → IsIn ps p q → place_in ps p q ≡ Some (place_of ps p q)
 place_in-yes ps p q h = cond-true (ltb (place_of ps p q) (length ps)) (Some (place_of ps p q)) None (lt-ltb (place_of ps p q) (length ps) h)
 
-place_in-no : (ps : List (ℕ × ℕ)) (p q : ℕ) → length ps ≤ place_of ps p q → place_in ps p q ≡ None
+pub place_in-no : (ps : List (ℕ × ℕ)) (p q : ℕ) → length ps ≤ place_of ps p q → place_in ps p q ≡ None
 place_in-no ps p q h = cond-false (ltb (place_of ps p q) (length ps)) (Some (place_of ps p q)) None (le-ltb (place_of ps p q) (length ps) h)
 
 abbrev signed : Option ℕ → Option ℕ → Option (ℕ × Sign)
@@ -86,9 +95,9 @@ pub row : (ps : List (ℕ × ℕ)) (p q : ℕ) → Row ps p q
 row ps p q = elim (cases_lt (place_of ps p q) (length ps)) [
   | inl h ↦ plus h (row-plus ps p q h)
   | inr h ↦ elim (cases_lt (place_of ps q p) (length ps)) [
-      | inl k ↦ minus h k (row-minus ps p q h k)
-      | inr k ↦ none h k (row-none ps p q h k)
-    ]
+    | inl k ↦ minus h k (row-minus ps p q h k)
+    | inr k ↦ none h k (row-none ps p q h k)
+  ]
 ]
 
 some_is : (x y : ℕ × Sign) → Some x ≡ Some y → x ≡ y
@@ -97,9 +106,9 @@ some_is x y e = cc
 not_own_inverse : (x : Letter) → x ≡ inverse_letter x → ⊥
 not_own_inverse x e = other_sign x.inverse (ap (λ (y : Letter). y.inverse) e)
   where
-  other_sign : (b : Bool) → b ≡ not b → ⊥
-  other_sign true h = cc
-  other_sign false h = cc
+    other_sign : (b : Bool) → b ≡ not b → ⊥
+    other_sign true h = cc
+    other_sign false h = cc
 
 not_plus : (o : Option (ℕ × Sign)) (j k : ℕ) → o ≡ Some (j, Minus) → o ≡ Some (k, Plus) → ⊥
 not_plus o j k e f = let signs : Minus ≡ Plus = ap (λ (x : ℕ × Sign). x.1) (some_is (j, Minus) (k, Plus) (sym e ∙ f)) in cc
@@ -164,6 +173,12 @@ row_from_inverse c p q hp hq e (none h i r) = elim (cases_order p q) [
 
 pub row_where_inverse : (c : Chain) (p q : ℕ) → p < positions c → q < positions c → IsSome (row_in (pairs c) p q) ↔ (letter c q ≡ inverse_letter (letter c p))
 row_where_inverse c p q hp hq = (inverse_from c p q (row (pairs c) p q), λ e. row_from_inverse c p q hp hq e (row (pairs c) p q))
+
+-- the same of a list that is known to be that of the chain's pairs
+pub row_says : (c : Chain) (ps : List (ℕ × ℕ)) (p q : ℕ) (r : Option (ℕ × Sign)) → ps ≡ pairs c → r ≡ row_in ps p q → p < positions c → q < positions c →
+    IsSome r ↔ (letter c q ≡ inverse_letter (letter c p))
+row_says c ps p q r e s hp hq =
+    subst (λ (o : Option (ℕ × Sign)). IsSome o ↔ (letter c q ≡ inverse_letter (letter c p))) (sym (s ∙ ap (λ (l : List (ℕ × ℕ)). row_in l p q) e)) (row_where_inverse c p q hp hq)
 
 -- ---- prices
 

@@ -1,8 +1,11 @@
 -- The place of a pair in a list of pairs, and lists of pairs that are made first by first, second by second.
-use Rattle.std.proofs.Common.{◌≡◌, ℕ, zero, suc, ◌+◌, ◌<◌, ◌≤◌, Bool, true, false, ◌&&◌, eqb, List, [], ◌∷◌, ◌++◌, map, length, get_or, inl, inr, arith, refl, sym, ap, subst, ◌∙◌, length-append}
+use Rattle.std.proofs.Common.{◌≡◌, ℕ, zero, suc, ◌+◌, ◌<◌, ◌≤◌, Bool, true, false, ◌&&◌, eqb, List, [], ◌∷◌, ◌++◌, map, length, get_or, inl, inr, arith, refl, sym, ap, subst, ◌∙◌, length-append, append_assoc, append-nil}
 use Rattle.std.specs.List.{AllByRecursion, filter, flat_map, range_with_len}
 use Rattle.std.proofs.lemmas.Bool.{cases_Bool, cases_eq, and_parts, and_from, and_left, and_right, true≢false, eqb-true, eq-eqb, ne_eqb, cond-true, cond-false}
 use Rattle.sc_theory.specs.Prices.{place_of}
+
+suc_is : (n : ℕ) → suc n ≡ n + 1
+suc_is n = omega arith
 
 -- whether a pair is that of p and q
 abbrev pub same : ℕ × ℕ → ℕ → ℕ → Bool
@@ -108,6 +111,39 @@ pub seconds-no : (x : ℕ) (test : ℕ → Bool) (b m : ℕ) → test b ≡ fals
 seconds-no x test b m e =
     ap (map (λ (q : ℕ). (x, q))) (cond-false (test b) (b ∷ filter test (range_with_len (b + 1) m)) (filter test (range_with_len (b + 1) m)) e)
 
+-- none below n where none passes the test, and one number more
+pub seconds-none : (x : ℕ) (test : ℕ → Bool) (b m : ℕ) → ((q : ℕ) → b ≤ q → q < b + m → test q ≡ false) → seconds x test b m ≡ []
+seconds-none x test b zero f = refl
+seconds-none x test b (suc m) f = seconds-no x test b m (f b (omega arith) (omega arith)) ∙ seconds-none x test (b + 1) m (λ q h k. f q (omega arith) (omega arith))
+
+abbrev pub one_if : Bool → ℕ × ℕ → List (ℕ × ℕ)
+one_if true a = a ∷ []
+one_if false a = []
+
+seconds_more : (x : ℕ) (test : ℕ → Bool) (b m j : ℕ) → b + m ≡ j → seconds x test b (suc m) ≡ seconds x test b m ++ one_if (test j) (x, j)
+seconds_more x test b zero j e = elim (cases_Bool (test j)) [
+  | inl t ↦ rw t (subst (λ (i : ℕ). seconds x test i 1 ≡ (x, j) ∷ []) (let s : j ≡ b = omega arith in s) (seconds-yes x test j 0 t))
+  | inr t ↦ rw t (subst (λ (i : ℕ). seconds x test i 1 ≡ []) (let s : j ≡ b = omega arith in s) (seconds-no x test j 0 t))
+]
+seconds_more x test b (suc m) j e =
+    let rest : seconds x test (b + 1) (suc m) ≡ seconds x test (b + 1) m ++ one_if (test j) (x, j) = seconds_more x test (b + 1) m j (omega arith) in
+    elim (cases_Bool (test b)) [
+      | inl t ↦ seconds-yes x test b (suc m) t ∙ ap (λ (ps : List (ℕ × ℕ)). (x, b) ∷ ps) rest ∙ ap (λ (ps : List (ℕ × ℕ)). ps ++ one_if (test j) (x, j)) (sym (seconds-yes x test b m t))
+      | inr t ↦ seconds-no x test b (suc m) t ∙ rest ∙ ap (λ (ps : List (ℕ × ℕ)). ps ++ one_if (test j) (x, j)) (sym (seconds-no x test b m t))
+    ]
+
+pub seconds-kept : (xs : List (ℕ × ℕ)) (x : ℕ) (test : ℕ → Bool) (n : ℕ) → test n ≡ true →
+    (xs ++ seconds x test 0 n) ++ (x, n) ∷ [] ≡ xs ++ seconds x test 0 (n + 1)
+seconds-kept xs x test n e =
+    append_assoc xs (seconds x test 0 n) ((x, n) ∷ [])
+    ∙ ap (λ (ps : List (ℕ × ℕ)). xs ++ ps)
+    (ap (λ (t : Bool). seconds x test 0 n ++ one_if t (x, n)) (sym e) ∙ sym (seconds_more x test 0 n n (omega arith)) ∙ ap (seconds x test 0) (suc_is n))
+
+pub seconds-passed : (x : ℕ) (test : ℕ → Bool) (n : ℕ) → test n ≡ false → seconds x test 0 (n + 1) ≡ seconds x test 0 n
+seconds-passed x test n e =
+    ap (seconds x test 0) (sym (suc_is n)) ∙ seconds_more x test 0 n n (omega arith)
+    ∙ ap (λ (t : Bool). seconds x test 0 n ++ one_if t (x, n)) e ∙ append-nil (seconds x test 0 n)
+
 apart-seconds : (x : ℕ) (test : ℕ → Bool) (b m : ℕ) → AreApart (seconds x test b m)
 apart-seconds x test b zero = tt
 apart-seconds x test b (suc m) = elim (cases_Bool (test b)) [
@@ -180,3 +216,13 @@ in-firsts test m a (suc n) p q h k l e = elim (cases_eq a p) [
   | inr other ↦
       in-append_right (seconds a (test a) 0 m) (all_seconds test m (a + 1) n) p q (in-firsts test m (a + 1) n p q (omega arith) (omega arith) l e)
 ]
+
+firsts_next : (test : ℕ → ℕ → Bool) (m a n j : ℕ) → a + n ≡ j → all_seconds test m a n ++ seconds j (test j) 0 m ≡ all_seconds test m a (suc n)
+firsts_next test m a zero j e =
+    ap (λ (i : ℕ). seconds i (test i) 0 m) (let same : j ≡ a = omega arith in same) ∙ sym (append-nil (seconds a (test a) 0 m))
+firsts_next test m a (suc n) j e =
+    append_assoc (seconds a (test a) 0 m) (all_seconds test m (a + 1) n) (seconds j (test j) 0 m)
+    ∙ ap (λ (ps : List (ℕ × ℕ)). seconds a (test a) 0 m ++ ps) (firsts_next test m (a + 1) n j (omega arith))
+
+pub firsts_more : (test : ℕ → ℕ → Bool) (m n : ℕ) → all_seconds test m 0 n ++ seconds n (test n) 0 m ≡ all_seconds test m 0 (n + 1)
+firsts_more test m n = firsts_next test m 0 n n (omega arith) ∙ ap (all_seconds test m 0) (suc_is n)

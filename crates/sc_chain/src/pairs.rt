@@ -1,11 +1,12 @@
 //! The inverse pairs of a chain: the pairs of positions with inverse letters, by the lesser position, then the greater.
 
-ghost use Rattle.std.specs.Prelude.{◌≡◌, ◌<◌, ◌≤◌, ◌+◌, ◌++◌, ◌↔◌, length, map, filter, get_or, IfOk, OnOk, IfSome, IsSome};
+ghost use Rattle.std.specs.Prelude.{◌≡◌, ◌<◌, ◌≤◌, ◌*◌, ◌+◌, ◌++◌, ◌↔◌, length, map, filter, get_or, IfOk, OnOk, IfSome, IsSome};
 ghost use Rattle.sc_theory.specs.Words.{inverse_letter};
 ghost use Rattle.sc_theory.specs.Chains.{Chain as AnyChain, positions, letter};
 ghost use Rattle.sc_theory.specs.Prices.{pairs, is_pair, all_positions};
 ghost use Rattle.sc_chain.specs.declared.limits.TheConstants.{MAX_POSITIONS};
 ghost use Rattle.sc_chain.specs.Pairs.{place_in, row_in};
+ghost use Rattle.sc_chain.specs.PairTable.{ArePairsBelow, IsTableOf};
 
 use crate::chain::Chain;
 use crate::letter::is_inverse;
@@ -39,7 +40,8 @@ fn append_pairs(pairs: &mut Vec<(usize, usize)>, chain: &Chain, p: usize) -> Res
     requires { p < positions chain.now }
     ensures { OnOk result (pairs.new.items ≡ pairs.old.items ++ map (λ q. (p, q)) (filter (is_pair chain.now p) (all_positions chain.now))) }
 {
-    for q in p + 1..chain.positions() {
+    let positions = chain.positions();
+    for q in p + 1..positions {
         if is_inverse(chain.letter(p), chain.letter(q)) {
             pairs.push((p, q))?;
         }
@@ -58,12 +60,16 @@ fn inverse_pairs(alloc: Global, chain: &Chain) -> Result<Vec<(usize, usize)>, Al
     Ok(found)
 }
 
-/// The place of each pair of positions in a list of pairs, row by row.
+/// The place of each two positions in a list of pairs, row by row.
 fn places_of(
     alloc: Global,
     pairs: &[(usize, usize)],
     positions: usize,
-) -> Result<Vec<Option<usize>>, AllocError> {
+) -> Result<Vec<Option<usize>>, AllocError>
+    requires few { positions ≤ MAX_POSITIONS }
+    requires pairs { ArePairsBelow pairs.now positions }
+    ensures { IfOk result (λ places. IsTableOf pairs.now positions places.items) }
+{
     let mut places = vec![in alloc; None; positions * positions]?;
     for (place, (p, q)) in pairs.iter().enumerate() {
         places[*p * positions + *q] = Some(place);
@@ -88,7 +94,8 @@ impl Pairs {
 
     /// How many pairs there are.
     pub fn count(&self) -> usize
-        ensures { result ≡ length self.now }
+        ensures count { result ≡ length self.now }
+        ensures few { length self.now ≤ MAX_POSITIONS * MAX_POSITIONS }
     {
         self.pairs.len()
     }
@@ -97,6 +104,7 @@ impl Pairs {
     pub fn pair_at(&self, row: usize) -> (usize, usize)
         requires { row < length self.now }
         ensures pair { result ≡ get_or self.now row (0, 0) }
+        ensures row { row_in self.now result.0 result.1 ≡ Some (row, Sign.Plus) }
         ensures ordered { result.0 < result.1 }
         ensures in_range { result.1 < MAX_POSITIONS }
     {

@@ -1,7 +1,10 @@
 //! Polygons: closed walks without repeats, each written from its least position.
 
-ghost use Rattle.std.specs.Prelude.{◌≡◌, ◌↔◌, IsTrue, IsSome, IfOk, IfSome};
+ghost use Rattle.std.specs.Prelude.{◌≡◌, ◌<◌, ◌↔◌, ℕ, nat_lt, length, get_or, IsTrue, IsSome, IfOk, IfSome};
+ghost use Rattle.std.specs.List.{list_all};
+ghost use Rattle.std.specs.Bool.{OnTrue};
 ghost use Rattle.sc_theory.specs.Walks.{IsPolygon};
+ghost use Rattle.sc_chain.specs.Faults.{IsSmallChain};
 ghost use Rattle.sc_chain.specs.Polygons as tests;
 
 use crate::chain::Chain;
@@ -36,7 +39,8 @@ pub struct Pivot {
 
 /// Whether these are positions with a step from the first to the second.
 fn goes(chain: &Chain, from: u32, to: u32) -> bool
-    ensures { result ≡ tests.is_step chain.now from to }
+    ensures step { result ≡ tests.is_step chain.now from to }
+    ensures small { IsSmallChain chain.now }
 {
     let positions = chain.positions();
     let (i, j) = (from as usize, to as usize);
@@ -45,7 +49,8 @@ fn goes(chain: &Chain, from: u32, to: u32) -> bool
 
 /// Whether there is a step from each position to the next, and from the last to the first.
 fn is_closed(chain: &Chain, walk: &[u32]) -> bool
-    ensures { result ≡ tests.is_closed_walk chain.now walk.now }
+    ensures closed { result ≡ tests.is_closed_walk chain.now walk.now }
+    ensures in_range { OnTrue result ((k : ℕ) → k < length walk.now → get_or walk.now k 0 < MAX_POSITIONS) }
 {
     let [first, rest @ ..] = walk else {
         return false;
@@ -60,18 +65,26 @@ fn is_closed(chain: &Chain, walk: &[u32]) -> bool
     goes(chain, here, *first)
 }
 
+/// Whether all of these positions are greater than one.
+fn are_above(least: u32, others: &[u32]) -> bool
+    ensures { result ≡ list_all (λ position. nat_lt least position) others.now }
+{
+    others.iter().all(|position| least < *position)
+}
+
 /// Whether the positions behind the first are greater than it.
 fn is_from_least(walk: &[u32]) -> bool
     ensures { result ≡ tests.is_from_least walk.now }
 {
     match walk {
         [] => false,
-        [first, rest @ ..] => rest.iter().all(|position| *first < *position),
+        [first, rest @ ..] => are_above(*first, rest),
     }
 }
 
 /// Whether no position stands twice.
 fn is_simple(walk: &[u32]) -> bool
+    requires { (k : ℕ) → k < length walk.now → get_or walk.now k 0 < MAX_POSITIONS }
     ensures { result ≡ tests.has_no_repeat walk.now }
 {
     let mut seen = [false; MAX_POSITIONS];
@@ -85,14 +98,21 @@ fn is_simple(walk: &[u32]) -> bool
     true
 }
 
+/// Whether a walk is a polygon of a chain, written from its least position.
+fn is_polygon(chain: &Chain, walk: &[u32]) -> bool
+    ensures polygon { result ≡ tests.is_polygon chain.now walk.now }
+    ensures small { OnTrue result (tests.IsSmallWalk walk.now) }
+{
+    is_closed(chain, walk) && is_from_least(walk) && is_simple(walk)
+}
+
 impl Polygon {
     /// The polygon of a walk, if it is one of this chain and written from its least position.
     pub fn of(chain: &Chain, walk: Vec<u32>) -> Option<Polygon>
         ensures polygon { IsSome result ↔ IsPolygon chain.now walk.items }
         ensures walk { IfSome result (λ p. p ≡ walk.items) }
     {
-        let positions = walk.as_slice();
-        if is_closed(chain, positions) && is_from_least(positions) && is_simple(positions) {
+        if is_polygon(chain, walk.as_slice()) {
             Some(Polygon { walk })
         } else {
             None
