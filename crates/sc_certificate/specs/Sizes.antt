@@ -1,9 +1,13 @@
 -- The sizes of price lists and distance tables.
-use Rattle.std.specs.Prelude.{◌≡◌, ℕ, ◌<◌, List, length, get_or}
+use Rattle.std.specs.Prelude.{◌≡◌, ℕ, List, ℤ, length}
 use Rattle.std.specs.List.{AllByRecursion}
 use Rattle.sc_theory.specs.Prices.{Prices, Tables}
 use Rattle.sc_text.specs.PriceLines.{IsScaleInRange, IsPriceInRange}
 use Rattle.sc_text.specs.TableLines.{IsEntryInRange}
+
+-- the list of a scale, the prices of words, and those of pairs
+abbrev pub list_of : ℤ → List ℤ → List ℤ → Prices
+list_of scale base pair = record { scale = scale; base = base; pair = pair }
 
 -- the scale and the prices are in their ranges
 pub record IsSmallList (list : Prices) : Type 0 where

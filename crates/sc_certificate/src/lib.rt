@@ -2,8 +2,12 @@
 #![tactic(auto)]
 
 mod laws;
+mod price_list;
+mod tables;
 
 pub use laws::{
     certificate_text_is_faultless, certificate_text_is_of_one_certificate,
     faultless_is_certificate_text, pivot_lines_are_a_kind,
 };
+pub use price_list::PriceList;
+pub use tables::{Row, Tables};
