@@ -1,6 +1,6 @@
 //! Whether a price list is tight.
 
-ghost use Rattle.std.specs.Prelude.{◌≡◌, ℕ, length, IsTrue, pos, ◌*ℤ◌};
+ghost use Rattle.std.specs.Prelude.{◌≡◌, ◌↔◌, ℕ, length, IsTrue, pos, ◌*ℤ◌};
 ghost use Rattle.sc_theory.specs.Chains.{weighted_length};
 ghost use Rattle.sc_theory.specs.Prices.{bound};
 ghost use Rattle.sc_prices.specs.Sizes.{AreVertices, IsOfPrices};

@@ -1,6 +1,6 @@
 //! Whether tables vouch for a price list.
 
-ghost use Rattle.std.specs.Prelude.{◌≡◌, ◌<◌, ℤ, length, IsTrue, Some, OnOk, IfErr};
+ghost use Rattle.std.specs.Prelude.{◌≡◌, ◌↔◌, ◌<◌, ℤ, length, IsTrue, Some, OnOk, IfErr};
 ghost use Rattle.sc_theory.specs.Chains.{positions};
 ghost use Rattle.sc_theory.specs.Prices.{pairs as inverse_pairs, Vouch};
 ghost use Rattle.sc_certificate.specs.Sizes.{FitsCounts, AreTablesOf};
