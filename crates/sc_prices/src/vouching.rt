@@ -9,7 +9,7 @@ ghost use Rattle.sc_prices.specs.Flaws.{Undercuts, HasStepFlaw, IsFirstTableFlaw
 ghost use Rattle.sc_prices.specs.Rows.{IsFirstInRow};
 
 use crate::flaws::TableFlaw;
-use crate::step_price::step_price;
+use crate::prices::step_price;
 use sc_certificate::{PriceList, Tables};
 use sc_chain::{Chain, Pairs};
 
