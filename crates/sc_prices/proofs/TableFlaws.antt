@@ -173,5 +173,5 @@ no_step_flaw c list tables s i j a p reached is none = λ f.
     let same : f.total ≡ a = some_same f.total a (sym f.reached ∙ sym reached) in
     none (subst (λ (z : ℤ). Undercuts list tables s j (a +ℤ z)) (sym is) (subst (λ (z : ℤ). Undercuts list tables s j (z +ℤ price c list i j)) same f.undercuts))
   where
-  some_same : (x y : ℤ) → Some x ≡ Some y → x ≡ y
-  some_same x y e = cc
+    some_same : (x y : ℤ) → Some x ≡ Some y → x ≡ y
+    some_same x y e = cc
