@@ -1,13 +1,15 @@
 -- One condition is the first that fails, and all that hold make the fatgraph least.
-use Rattle.std.proofs.Common.{◌≡◌, ◌↔◌, ℕ, ◌*◌, ℤ, pos, ◌*ℤ◌, ◌<ℤ◌, ap, sym, subst, ◌∙◌, refl, arith}
+use Rattle.std.proofs.Common.{◌≡◌, ◌↔◌, Bool, ◌&&◌, IsTrue, ℕ, ◌*◌, ℤ, pos, ◌*ℤ◌, ◌<ℤ◌, ap, sym, subst, ◌∙◌, refl, arith}
 use Rattle.std.proofs.lemmas.Int.{ints}
 use Rattle.sc_algebra.proofs.Ints.{mul_comm, mul_assoc, mul_left_comm}
 use Rattle.sc_theory.specs.Chains.{Chain, IsChain}
 use Rattle.sc_theory.proofs.Leastness.{least}
 use Rattle.sc_theory.proofs.Vouching.{covers}
-use Rattle.sc_fraction.specs.Ints.{mul_cancel_z}
-use Rattle.sc_fraction.specs.Laws.{same_frac}
-use Rattle.sc_fraction.specs.Frac.{numerator, denominator, IsQuotient}
+use Rattle.std.specs.Cmp.{Equal-is}
+use Rattle.std.specs.Ordering.{int_eq, is_eq}
+use Rattle.sc_fraction.specs.Ints.{mul_cancel_z, int_cmp_same, same_from_int_cmp}
+use Rattle.sc_fraction.specs.Laws.{same_frac, frac_eq_is}
+use Rattle.sc_fraction.specs.Frac.{numerator, denominator, IsQuotient, frac_cmp}
 use Rattle.sc_fraction.specs.declared.frac.Frac.{Frac}
 use Rattle.sc_text.specs.Surfaces.{IsChainInRange}
 use Rattle.sc_fatgraph.proofs.ReadChains.{accepted}
@@ -66,6 +68,20 @@ same_value x y a b above is = (
   where
     across : (p q r : ℤ) → p *ℤ b ≡ a *ℤ q → b *ℤ (p *ℤ r) ≡ a *ℤ (q *ℤ r)
     across p q r e = mul_left_comm b p r ∙ sym (mul_assoc p b r) ∙ ap (λ (z : ℤ). z *ℤ r) e ∙ mul_assoc a q r
+
+-- so the test of equality, field by field, tells which number it is
+pub value_test : (r : Bool) (x y : Frac) (a b : ℤ) → r ≡ (int_eq (numerator x) (numerator y) && int_eq (denominator x) (denominator y)) → pos 0 <ℤ b → IsQuotient a b y → IsTrue r ↔ IsQuotient a b x
+value_test r x y a b test above is =
+    let by_order : r ≡ is_eq (frac_cmp x y) = test ∙ frac_eq_is x y in
+    let same = same_value x y a b above is in
+    (
+      λ h. same.0 (same_frac x y (same_from_int_cmp (numerator x *ℤ denominator y) (numerator y *ℤ denominator x) ((Equal-is (frac_cmp x y)).0 (sym by_order ∙ h)))),
+      λ q.
+          by_order
+          ∙ ap is_eq
+          (int_cmp_same (numerator x *ℤ denominator y) (numerator y *ℤ denominator x)
+          (subst (λ (z : Frac). numerator x *ℤ denominator z ≡ numerator z *ℤ denominator x) (same.1 q) refl)),
+    )
 
 -- ---- what a verdict tells
 
