@@ -1,10 +1,11 @@
 -- One condition is the first that fails, and all that hold make the fatgraph least.
-use Rattle.std.proofs.Common.{◌≡◌, ◌↔◌, Bool, ◌&&◌, IsTrue, ℕ, ◌*◌, ℤ, pos, ◌*ℤ◌, ◌<ℤ◌, ap, sym, subst, ◌∙◌, refl, arith}
+use Rattle.std.proofs.Common.{◌≡◌, ◌↔◌, List, Result, IfOk, Bool, ◌&&◌, IsTrue, ℕ, ◌*◌, ℤ, pos, ◌*ℤ◌, ◌<ℤ◌, ap, sym, subst, ◌∙◌, refl, arith}
 use Rattle.std.proofs.lemmas.Int.{ints}
 use Rattle.sc_algebra.proofs.Ints.{mul_comm, mul_assoc, mul_left_comm}
 use Rattle.sc_theory.specs.Chains.{Chain, IsChain}
 use Rattle.sc_theory.proofs.Leastness.{least}
 use Rattle.sc_theory.proofs.Vouching.{covers}
+use Rattle.std.proofs.lemmas.Result.{IfOk-weaker}
 use Rattle.std.specs.Cmp.{Equal-is}
 use Rattle.std.specs.Ordering.{int_eq, is_eq}
 use Rattle.sc_fraction.specs.Ints.{mul_cancel_z, int_cmp_same, same_from_int_cmp}
@@ -12,6 +13,8 @@ use Rattle.sc_fraction.specs.Laws.{same_frac, frac_eq_is}
 use Rattle.sc_fraction.specs.Frac.{numerator, denominator, IsQuotient, frac_cmp}
 use Rattle.sc_fraction.specs.declared.frac.Frac.{Frac}
 use Rattle.sc_text.specs.Surfaces.{IsChainInRange}
+use Rattle.sc_chain.specs.declared.polygon.Pivot.{Pivot}
+use Rattle.sc_fatgraph.specs.Surfaces.{Surface, surface}
 use Rattle.sc_fatgraph.proofs.ReadChains.{accepted}
 use Rattle.sc_theory.specs.Fatgraphs.{IsFatgraph, IsLeast, cost}
 use Rattle.sc_fatgraph.specs.declared.flaws.FlawKind.{FlawKind}
@@ -24,7 +27,7 @@ use Rattle.sc_prices.specs.declared.verdict.Verdict.TheVariants.{Optimal, Reject
 use Rattle.sc_prices.specs.declared.verdict.Condition.{Condition}
 use Rattle.sc_prices.specs.declared.verdict.Condition.TheVariants.{Flaw, Value, Table, NotTight}
 use Rattle.sc_prices.specs.Flaws.{IsFirstTableFlaw}
-use Rattle.sc_prices.specs.Conditions.{certificate_of, AllHold, IsFirstFailing, IsVerdictOn, IfOptimal}
+use Rattle.sc_prices.specs.Conditions.{stated, certificate_of, AllHold, IsFirstFailing, IsVerdictOn, IfOptimal}
 use Rattle.sc_prices.proofs.TableFlaws.{first_flaw_alone, vouch_flawless}
 
 no_flaw : (v : Certificate) (kind : FlawKind) (place : ℕ) → IsFatgraph v.chain v.copies v.sides → IsFirstFailing v (Flaw kind place) → ⊥
@@ -73,8 +76,7 @@ same_value x y a b above is = (
 pub value_test : (r : Bool) (x y : Frac) (a b : ℤ) → r ≡ (int_eq (numerator x) (numerator y) && int_eq (denominator x) (denominator y)) → pos 0 <ℤ b → IsQuotient a b y → IsTrue r ↔ IsQuotient a b x
 value_test r x y a b test above is =
     let by_order : r ≡ is_eq (frac_cmp x y) = test ∙ frac_eq_is x y in
-    let same = same_value x y a b above is in
-    (
+    let same = same_value x y a b above is in (
       λ h. same.0 (same_frac x y (same_from_int_cmp (numerator x *ℤ denominator y) (numerator y *ℤ denominator x) ((Equal-is (frac_cmp x y)).0 (sym by_order ∙ h)))),
       λ q.
           by_order
@@ -117,3 +119,10 @@ verdict_tells s (Rejected k) range fails = record {
   least = tt;
   value = tt;
 }
+
+-- the verdict on a certificate is that on its surface
+pub verdict_of_surface : {E : Type 0} (s : CertificateParts) (f : Surface) (r : Result Verdict E) → f ≡ surface s.chain s.n s.sides
+    → IfOk r (λ x. (journal : List Pivot) → IsVerdictOn (stated f s.value s.list s.tables journal) x) → IfOk r (IsVerdictOn (certificate_of s))
+verdict_of_surface s f r is h =
+    IfOk-weaker r (λ x. (journal : List Pivot) → IsVerdictOn (stated f s.value s.list s.tables journal) x) (IsVerdictOn (certificate_of s))
+    (λ x all. subst (λ (g : Surface). IsVerdictOn (stated g s.value s.list s.tables s.journal.items) x) is (all s.journal.items)) h
