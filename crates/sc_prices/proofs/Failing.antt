@@ -20,13 +20,11 @@ use Rattle.sc_theory.specs.Fatgraphs.{IsFatgraph, IsLeast, cost}
 use Rattle.sc_fatgraph.specs.declared.flaws.FlawKind.{FlawKind}
 use Rattle.sc_fatgraph.proofs.FlawLaws as sides
 use Rattle.sc_certificate.specs.Certificates.{Certificate, IsCertificateInRange}
-use Rattle.sc_prices.specs.declared.flaws.TableFlaw.{TableFlaw}
 use Rattle.sc_prices.specs.declared.certificate.Certificate.{Certificate as CertificateParts}
 use Rattle.sc_prices.specs.declared.verdict.Verdict.{Verdict}
 use Rattle.sc_prices.specs.declared.verdict.Verdict.TheVariants.{Optimal, Rejected}
 use Rattle.sc_prices.specs.declared.verdict.Condition.{Condition}
 use Rattle.sc_prices.specs.declared.verdict.Condition.TheVariants.{Flaw, Value, Table, NotTight}
-use Rattle.sc_prices.specs.Flaws.{IsFirstTableFlaw}
 use Rattle.sc_prices.specs.Conditions.{stated, certificate_of, AllHold, IsFirstFailing, IsVerdictOn, IfOptimal}
 use Rattle.sc_prices.proofs.TableFlaws.{first_flaw_alone, vouch_flawless}
 

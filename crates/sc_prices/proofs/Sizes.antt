@@ -1,12 +1,12 @@
 -- Sums of prices, each so many times, keep within 128 bits.
-use Rattle.std.proofs.Common.{◌≡◌, ◌≢◌, ◌↔◌, IsTrue, nat_eq, ℕ, zero, suc, ◌+◌, ◌*◌, ◌^◌, ◌<◌, ◌≤◌, [], ◌∷◌, refl, take, length, get_or, ℤ, pos, neg_ℤ, ◌+ℤ◌, ◌*ℤ◌, ◌≤ℤ◌, FitsSigned, to_z, of_z, to_z-of_z, Some, add-one, arith, sym, ap, subst, ◌∙◌}
+use Rattle.std.proofs.Common.{◌≡◌, ◌≢◌, ◌↔◌, IsTrue, nat_eq, ℕ, zero, suc, ◌+◌, ◌*◌, ◌^◌, ◌<◌, ◌≤◌, [], ◌∷◌, refl, take, length, ℤ, pos, neg_ℤ, ◌+ℤ◌, ◌*ℤ◌, ◌≤ℤ◌, FitsSigned, to_z, of_z, to_z-of_z, Some, add-one, arith, sym, ap, subst, ◌∙◌}
 use Rattle.std.specs.Int.{w128}
 use borrow.Author.Tests.{eqb-true}
 use Rattle.std.proofs.lemmas.Bool.{eq-eqb}
 use Rattle.std.proofs.Math.Seq.{take-length}
 use Rattle.std.proofs.lemmas.Int.{ints}
 use Rattle.std.proofs.lemmas.List.Sums.{sum_by_more, sum_by-take-le}
-use Rattle.sc_algebra.proofs.Ints.{mul_comm, mul_neg, add_mul, pos-add, pos-mul, pos-le, le_trans, mul-le_left, mul-le_right, mul_assoc}
+use Rattle.sc_algebra.proofs.Ints.{mul_comm, mul_neg, pos-mul, pos-le, mul-le_left, mul-le_right, mul_assoc}
 use Rattle.sc_algebra.specs.Sums.{sum_below}
 use Rattle.sc_theory.specs.Words.{Word}
 use Rattle.sc_theory.specs.Chains.{Chain, IsChain, no_word, weight, word, weighted_length}
