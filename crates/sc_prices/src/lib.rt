@@ -18,3 +18,6 @@ pub use sc_certificate::{PriceList, Tables};
 pub use tightness::tight;
 pub use verdict::{Condition, Verdict};
 pub use vouching::vouch;
+
+#[cfg(test)]
+mod tests;
