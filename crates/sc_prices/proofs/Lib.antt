@@ -1,0 +1,5 @@
+pub mod StepPrices
+pub mod Sizes
+pub mod TableFlaws
+pub mod Failing
+pub mod Pieces
