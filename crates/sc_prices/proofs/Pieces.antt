@@ -1,5 +1,5 @@
 -- The pieces of a certificate text, and of its lines.
-use Rattle.std.proofs.Common.{◌≡◌, ℕ, ◌+◌, ◌<◌, ◌≤◌, take, drop, Option, zero-add, subst, List, [], ◌∷◌, ◌++◌, map, length, get_or, codes, pos, ℤ, refl, sym, ap, ◌∙◌, append_assoc, append-nil, arith}
+use Rattle.std.proofs.Common.{◌≡◌, ℕ, ◌+◌, ◌<◌, ◌≤◌, take, drop, Option, zero-add, subst, List, [], ◌∷◌, ◌++◌, map, length, get_or, codes, pos, ℤ, sym, ap, ◌∙◌, append_assoc, arith}
 use Rattle.std.specs.List.{flat_map, zip, enumerate_from}
 use Rattle.std.proofs.lemmas.List.{take_all}
 use Rattle.std.proofs.lemmas.Slice.Zip.{get_or-zip, length-zip}
@@ -15,7 +15,7 @@ use Rattle.sc_text.specs.ValueLines.{value_line}
 use Rattle.sc_text.proofs.PrintLaws.{line_flat, flat_map-map, pieces_at, pieces_more, part_after, lines_at}
 use Rattle.sc_text.specs.Printing.{AppendsPart}
 use Rattle.sc_certificate.specs.PivotLines.{pivot_line}
-use Rattle.sc_certificate.specs.Certificates.{Certificate, heading, list_lines, tables_lines, journal_lines, certificate_lines, certificate_text}
+use Rattle.sc_certificate.specs.Certificates.{Certificate, heading, list_lines, tables_lines, journal_lines, certificate_text}
 use Rattle.sc_prices.specs.declared.printing.Part.{Part}
 use Rattle.sc_prices.specs.declared.printing.TheConstants.{PARTS}
 use Rattle.sc_prices.specs.Parts.{part_text, pair_lines}

@@ -1,4 +1,4 @@
-use Rattle.std.proofs.Common.{◌≡◌, ◌∙◌, ℕ, List, ap}
+use Rattle.std.proofs.Common.{◌∙◌, ℕ, List, ap}
 use Rattle.sc_certificate.specs.PivotLines.{pivot_line}
 use Rattle.sc_text.proofs.PrintLaws.{on_err}
 use Rattle.sc_prices.proofs.Pieces.{lines_part}
