@@ -8,3 +8,8 @@ pub mod CoefficientLaws
 pub mod DecisionLaws
 pub mod ReadingLaws
 pub mod WordLists
+pub mod PairLists
+pub mod PairLaws
+pub mod PairTables
+pub mod PolygonLaws
+pub mod Marks

@@ -5,3 +5,6 @@ pub mod Inside
 pub mod Balance
 pub mod ChainText
 pub mod Decision
+pub mod Pairs
+pub mod PairTable
+pub mod Polygons

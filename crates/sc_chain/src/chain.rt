@@ -1,7 +1,8 @@
 //! Chains, and the tables by which their positions are looked up.
 
-ghost use Rattle.std.specs.Prelude.{◌≡◌, ◌≢◌, ◌<◌, ◌≤◌, ◌^◌, ◌+◌, ◌↔◌, length, IfOk, IfSome, IsNone, IsErrOf, OnOk, vec_len};
+ghost use Rattle.std.specs.Prelude.{◌≡◌, ◌≢◌, ◌<◌, ◌≤◌, ◌^◌, ◌+◌, ◌↔◌, length, IsTrue, IfOk, IfSome, IsNone, IsErrOf, OnOk, vec_len};
 ghost use Rattle.sc_theory.specs.Chains.{positions, weighted_length, letter, succ, prev, first, word_of, weight, chain_total, IsBalanced};
+ghost use Rattle.sc_theory.specs.Walks.{IsStep};
 ghost use Rattle.sc_chain.specs.declared.limits.TheConstants.{MAX_POSITIONS};
 ghost use Rattle.sc_chain.specs.Balance.{IsFirstUnbalanced};
 ghost use Rattle.sc_chain.specs.Faults.{AreGoodBelow};
@@ -9,6 +10,7 @@ ghost use Rattle.sc_chain.specs.Tables.{AppendsBelow, AreTables};
 
 use crate::fault::ChainFault;
 use crate::faults::{first_fault, weigh};
+use crate::letter::is_inverse;
 use crate::limits::GENERATORS;
 use crate::totals::total_in_words;
 use crate::word::Word;
@@ -184,6 +186,15 @@ impl Chain {
         ensures in_range { result < positions self.now }
     {
         self.places[i].previous
+    }
+
+    /// Whether there is a step from i to j: the letter of j is the inverse of the letter after i.
+    pub fn is_step(&self, i: usize, j: usize) -> bool
+        requires from { i < positions self.now }
+        requires to { j < positions self.now }
+        ensures { IsTrue result ↔ IsStep self.now i j }
+    {
+        is_inverse(self.letter(self.succ(i)), self.letter(j))
     }
 
     /// The first position of a word.

@@ -312,3 +312,95 @@ fn words_are_lists_of_letters(rt: HostRuntime) -> Result<(), Fail> {
     assert!(rt; are_letters(b"azAZ") && !are_letters(b"a1"));
     Ok(())
 }
+
+// The steps of a chain, and its pairs.
+fn shown_steps(alloc: Global, chain: &Chain, pairs: &Pairs) -> Result<String, AllocError> {
+    let mut shown = String::new(alloc);
+    for i in 0..chain.positions() {
+        for j in 0..chain.positions() {
+            if chain.is_step(i, j) {
+                write!(shown, "{i} {j}, ")?;
+            }
+        }
+    }
+    for row in 0..pairs.count() {
+        let (p, q) = pairs.pair_at(row);
+        write!(shown, "({p} {q})")?;
+    }
+    Ok(shown)
+}
+
+#[test]
+fn inverse_pairs_have_rows(rt: HostRuntime) -> Result<(), Fail> {
+    let Ok(chain) = chain_of(rt.alloc(), &[1], b"abAB") else {
+        return Err(Fail::from("no chain"));
+    };
+    let pairs = Pairs::of(rt.alloc(), &chain)?;
+    assert_eq!(rt;
+        shown_steps(rt.alloc(), &chain, &pairs)?.as_str(),
+        "0 3, 1 0, 2 1, 3 2, (0 2)(1 3)"
+    );
+    let cases: [(u8, u8, Option<(usize, Sign)>); 8] = [
+        (0, 2, Some((0, Sign::Plus))),
+        (2, 0, Some((0, Sign::Minus))),
+        (1, 3, Some((1, Sign::Plus))),
+        (3, 1, Some((1, Sign::Minus))),
+        (0, 1, None),
+        (0, 0, None),
+        (0, 4, None),
+        (9, 0, None),
+    ];
+    for (p, q, expected) in cases {
+        assert_eq!(rt;
+            pairs.row_of(usize::from(p), usize::from(q)),
+            expected,
+            "at {p} {q}"
+        );
+    }
+    Ok(())
+}
+
+// Whether a walk is a polygon of a chain, and the polygon and its copy are the walk.
+fn are_polygons(alloc: Global, chain: &Chain, walk: &[u32]) -> Result<bool, AllocError> {
+    match Polygon::of(chain, Vec::from_slice(alloc, walk)?) {
+        Some(polygon) => {
+            let pivot = Pivot {
+                row: 0,
+                polygon: polygon.copy(alloc)?,
+            };
+            Ok(polygon.walk() == walk && pivot.polygon.walk() == walk)
+        }
+        None => Ok(false),
+    }
+}
+
+#[test]
+fn polygons_are_closed_walks_without_repeats(rt: HostRuntime) -> Result<(), Fail> {
+    let cases: [(&[u32], &[u8], &[u32], bool); 14] = [
+        (&[1], b"abAB", &[0, 3, 2, 1], true),
+        (&[1], b"abAB", &[3, 2, 1, 0], false),
+        (&[1], b"abAB", &[0, 3, 2], false),
+        (&[1], b"abAB", &[0], false),
+        (&[1], b"abAB", &[], false),
+        (&[1], b"abAB", &[0, 3, 2, 1, 0, 3, 2, 1], false),
+        (&[1], b"abAB", &[0, 9], false),
+        (&[1], b"abAB", &[4294967295, 0], false),
+        (&[1, 1, 1], b"a b AB", &[0, 2, 1, 3], true),
+        (&[1, 1, 1], b"a b AB", &[1, 3, 0, 2], false),
+        (&[1, 2], b"aa A", &[0, 2], true),
+        (&[1, 2], b"aa A", &[1, 2], true),
+        (&[1, 2], b"aa A", &[0, 2, 1, 2], false),
+        (&[1, 2], b"aa A", &[2, 0], false),
+    ];
+    for (weights, text, walk, expected) in cases {
+        match chain_of(rt.alloc(), weights, text) {
+            Ok(chain) => assert_eq!(rt;
+                are_polygons(rt.alloc(), &chain, walk)?,
+                expected,
+                "at {text:?} {walk:?}"
+            ),
+            Err(fault) => assert!(rt; false, "{fault:?} at {text:?}"),
+        }
+    }
+    Ok(())
+}

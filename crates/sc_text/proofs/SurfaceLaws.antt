@@ -17,7 +17,7 @@ use Rattle.sc_text.specs.Lines.{Line, Field, fields, spaced, number_of}
 use Rattle.sc_chain.specs.Spelling.{word_of}
 use Rattle.sc_text.specs.Words.{word_line, spelled, IsWordInRange}
 use Rattle.sc_text.specs.Sides.{side_line, IsSideInRange}
-use Rattle.sc_text.specs.Faults.{Table, row_at, due_after, line_fault, part_fault, between, literal_fault, numbers_fault, numbers_line_fault, named_fault, word_fault, word_fields_fault, weighted_word_fault}
+use Rattle.sc_text.specs.Faults.{Plan, row_at, due_after, line_fault, part_fault, between, literal_fault, numbers_fault, numbers_line_fault, named_fault, word_fault, word_fields_fault, weighted_word_fault}
 use Rattle.sc_text.specs.Surfaces.{heading, ending, count_line, surface_lines, word_row, side_row, table_of, surface_table, natural, count_in, letters_in}
 use Rattle.sc_text.specs.declared.surface.Stage.{Stage}
 use Rattle.sc_text.specs.declared.surface.Stage.TheVariants as stages
@@ -219,10 +219,10 @@ nothing_due k c n m g h all =
 
 -- ---- the fault of the next line
 
-pub fault_when_due : (table : List Line → Table) (before : List Line) (line : Line) (row : Line → Option Kind) → due_after table before ≡ Some row → line_fault table before line ≡ row line
+pub fault_when_due : (table : Plan) (before : List Line) (line : Line) (row : Line → Option Kind) → due_after table before ≡ Some row → line_fault table before line ≡ row line
 fault_when_due table before line row e = rw e refl
 
-pub fault_when_done : (table : List Line → Table) (before : List Line) (line : Line) → due_after table before ≡ None → line_fault table before line ≡ Some Rest
+pub fault_when_done : (table : Plan) (before : List Line) (line : Line) → due_after table before ≡ None → line_fault table before line ≡ Some Rest
 fault_when_done table before line e = rw e refl
 
 -- the same of lines that are known by what they are
@@ -248,8 +248,8 @@ due_at stages.Sides k c n m g h unended =
     ]
 due_at stages.Ended k c n m g h unended = absurd (unended refl)
 
-pub ended_when_due : (table : List Line → Table) (before : List Line) (rest : Line) → is_some (due_after table before) ≡ true → part_fault table before (rest ∷ []) ≡ Some Ended
+pub ended_when_due : (table : Plan) (before : List Line) (rest : Line) → is_some (due_after table before) ≡ true → part_fault table before (rest ∷ []) ≡ Some Ended
 ended_when_due table before rest e = rw e refl
 
-pub rest_when_done : (table : List Line → Table) (before : List Line) (rest : Line) → due_after table before ≡ None → part_fault table before (rest ∷ []) ≡ cond (eqb (length rest) 0) None (Some Rest)
+pub rest_when_done : (table : Plan) (before : List Line) (rest : Line) → due_after table before ≡ None → part_fault table before (rest ∷ []) ≡ cond (eqb (length rest) 0) None (Some Rest)
 rest_when_done table before rest e = rw e refl

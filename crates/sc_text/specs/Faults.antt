@@ -83,36 +83,40 @@ abbrev pub row_at : Table → ℕ → Option (Line → Option Kind)
 row_at [] i = None
 row_at (row ∷ rows) i = if nat_lt i row.0 then Some row.1 else row_at rows (i - row.0)
 
--- the table of a text may go by the lines that stand before a line, as these tell how many words and sides come
-abbrev pub due_after : (List Line → Table) → List Line → Option (Line → Option Kind)
-due_after table before = row_at (table before) (length before)
+-- what is due in a text after these lines: the fault of a line that stands next, where one may. It goes by the lines
+-- before, as these tell how many words and sides come
+abbrev pub Plan : Type 0
+Plan = List Line → Option (Line → Option Kind)
+
+abbrev pub due_after : Plan → List Line → Option (Line → Option Kind)
+due_after plan before = plan before
 
 -- the fault of a line after these lines
-abbrev pub line_fault : (List Line → Table) → List Line → Line → Option Kind
+abbrev pub line_fault : Plan → List Line → Line → Option Kind
 line_fault table before line = option_map_or (λ fault. fault line) (due_after table before) (Some Rest)
 
 -- the fault at the first of the parts that come after these lines; the last part of a text isn't ended
-abbrev pub part_fault : (List Line → Table) → List Line → List Line → Option Kind
+abbrev pub part_fault : Plan → List Line → List Line → Option Kind
 part_fault table before [] = None
 part_fault table before (line ∷ next ∷ more) = line_fault table before line
 part_fault table before (rest ∷ []) =
     if is_some (due_after table before) then Some Ended else (if length rest == 0 then None else Some Rest)
 
 -- the fault of the line number i of a text, counted from 1
-abbrev pub fault_at : (List Line → Table) → List ℕ → ℕ → Option Kind
+abbrev pub fault_at : Plan → List ℕ → ℕ → Option Kind
 fault_at table text zero = None
 fault_at table text (suc i) = part_fault table (take i (parts text)) (drop i (parts text))
 
 -- the first line of a text that has a fault, and its kind
-pub record IsFirstFault (table : List Line → Table) (text : List ℕ) (line : ℕ) (kind : Kind) : Type 0 where
+pub record IsFirstFault (table : Plan) (text : List ℕ) (line : ℕ) (kind : Kind) : Type 0 where
   pub here : fault_at table text line ≡ Some kind
   pub least : (i : ℕ) → i < line → fault_at table text i ≡ None
 
 -- every line of a text is as it is due
-abbrev pub IsFaultless : (List Line → Table) → List ℕ → Type 0
+abbrev pub IsFaultless : Plan → List ℕ → Type 0
 IsFaultless table text = (i : ℕ) → fault_at table text i ≡ None
 
 -- a text that isn't read has this first fault, unless memory ran out
-abbrev pub IsFaultOf : (List Line → Table) → List ℕ → TextFault → Type 0
+abbrev pub IsFaultOf : Plan → List ℕ → TextFault → Type 0
 IsFaultOf table text (Malformed line kind) = IsFirstFault table text line kind
 IsFaultOf table text Memory = Unit {0}

@@ -6,3 +6,7 @@ pub mod Surfaces
 pub mod LineFaults
 pub mod Readers
 pub mod Printing
+pub mod PriceLines
+pub mod ValueLines
+pub mod TableLines
+pub mod Formats

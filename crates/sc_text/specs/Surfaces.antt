@@ -9,7 +9,7 @@ use Rattle.sc_text.specs.declared.limits.TheConstants.{MAX_COPIES, MAX_SIDES, MA
 use Rattle.sc_text.specs.Lines.{Line, Field, text_of, numbers_line, fields, number_of}
 use Rattle.sc_text.specs.Words.{word_line, IsWordInRange}
 use Rattle.sc_text.specs.Sides.{side_line, IsSideInRange}
-use Rattle.sc_text.specs.Faults.{Table, between, literal_fault, numbers_line_fault, named_fault, word_fields_fault}
+use Rattle.sc_text.specs.Faults.{Table, Plan, row_at, between, literal_fault, numbers_line_fault, named_fault, word_fields_fault}
 
 abbrev pub heading : Line
 heading = codes "scallop surface 1"
@@ -87,7 +87,7 @@ table_of words room sides =
 
 -- the second line tells how many words come, and the second one after them how many sides; a word may have as many
 -- letters as those before it leave
-unfoldable pub surface_table : List Line → Table
+unfoldable pub surface_table : Plan
 surface_table before =
     let words = count_in (get_or before 1 []) in
-    table_of words (MAX_POSITIONS - sum_by letters_in (drop 2 before)) (count_in (get_or before (3 + words) []))
+    row_at (table_of words (MAX_POSITIONS - sum_by letters_in (drop 2 before)) (count_in (get_or before (3 + words) []))) (length before)

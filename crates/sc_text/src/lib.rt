@@ -4,6 +4,7 @@
 
 mod fault;
 mod fields;
+mod kinds;
 mod laws;
 pub mod limits;
 mod printing;
@@ -13,6 +14,7 @@ mod words;
 
 pub use fault::LineFault;
 pub use fields::{Fields, count_line, cut, in_range, literal_line};
+pub use kinds::kinds_of_lines;
 pub use laws::{
     faultless_is_surface_text, surface_text_is_faultless, surface_text_is_of_one_surface,
 };

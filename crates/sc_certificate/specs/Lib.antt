@@ -1,0 +1,3 @@
+pub mod PivotLines
+pub mod Sizes
+pub mod Certificates

@@ -1,0 +1,28 @@
+//! Laws of certificate texts.
+
+ghost use Rattle.std.specs.Prelude.{◌≡◌, ℕ, List};
+ghost use Rattle.sc_theory.specs.Chains.{Chain};
+ghost use Rattle.sc_text.specs.Faults.{IsFaultless};
+ghost use Rattle.sc_text.specs.Formats.{IsLineKind};
+ghost use Rattle.sc_certificate.specs.PivotLines.{pivot_row, pivot_in, pivot_line, IsPivotInRange};
+ghost use Rattle.sc_certificate.specs.Certificates.{Certificate, certificate_text, certificate_plan, IsCertificateInRange};
+
+/// The lines of pivots without a fault are the lines of the pivots in range, and tell them.
+pub fn pivot_lines_are_a_kind()
+    ensures { (c : Chain) → IsLineKind (pivot_row c) pivot_in pivot_line (IsPivotInRange c) }
+{}
+
+/// The text of a certificate in its ranges has no fault at any line, so it is read again.
+pub fn certificate_text_is_faultless()
+    ensures { (v : Certificate) → IsCertificateInRange v → IsFaultless certificate_plan (certificate_text v) }
+{}
+
+/// A text without a fault is the text of a certificate in its ranges.
+pub fn faultless_is_certificate_text()
+    ensures { (text : List ℕ) → IsFaultless certificate_plan text → (v : Certificate) × IsCertificateInRange v × (text ≡ certificate_text v) }
+{}
+
+/// No two certificates in their ranges have the same text.
+pub fn certificate_text_is_of_one_certificate()
+    ensures { (v w : Certificate) → IsCertificateInRange v → IsCertificateInRange w → certificate_text v ≡ certificate_text w → v ≡ w }
+{}

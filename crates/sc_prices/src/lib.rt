@@ -1,0 +1,18 @@
+//! Price lists: the tables that vouch for a list, the tight ones, and certificates, which are judged: a certificate whose
+//! conditions all hold shows that its fatgraph is least, whoever wrote it.
+#![tactic(auto)]
+
+mod certificate;
+mod flaws;
+pub mod laws;
+mod step_price;
+mod tightness;
+mod verdict;
+mod vouching;
+
+pub use certificate::Certificate;
+pub use flaws::TableFlaw;
+pub use sc_certificate::{PriceList, Tables};
+pub use tightness::tight;
+pub use verdict::{Condition, Verdict};
+pub use vouching::vouch;

@@ -1,0 +1,68 @@
+-- The lines of a price list.
+use Rattle.std.specs.Prelude.{ℕ, Bool, ◌&&◌, List, [], ◌∷◌, get_or, Option, Some, None, if◌then◌else◌, ℤ, pos, neg_ℤ, ◌≤ℤ◌, int_le, codes}
+use Rattle.std.specs.Option.{unwrap_or}
+use Rattle.std.specs.Str.{bytes_eq}
+use Rattle.sc_whole.specs.Spelling.{spelling}
+use Rattle.sc_chain.specs.declared.fault.Kind.{Kind}
+use Rattle.sc_chain.specs.declared.fault.Kind.TheVariants.{Form}
+use Rattle.sc_text.specs.declared.limits.TheConstants.{MAX_PRICE}
+use Rattle.sc_text.specs.Lines.{Line, Field, numbers_line, fields, number_of}
+use Rattle.sc_text.specs.Faults.{NumberRange, named_fault, numbers_fault, numbers_line_fault}
+
+-- the numbers from low to high, and those of at most this size
+abbrev pub from_to : ℤ → ℤ → NumberRange
+from_to low high z = int_le low z && int_le z high
+
+abbrev pub of_size : ℤ → NumberRange
+of_size most = from_to (neg_ℤ most) most
+
+-- the number in a field of a line, and 0 where there is none
+abbrev pub number_in : ℕ → Line → ℤ
+number_in i line = unwrap_or (number_of (get_or (fields line) i [])) (pos 0)
+
+-- the fault of fields that are due to begin with a known number
+abbrev pub known_fault : ℤ → (List Field → Option Kind) → List Field → Option Kind
+known_fault z others [] = Some Form
+known_fault z others (f ∷ fs) = if bytes_eq f (spelling z) then others fs else Some Form
+
+-- ---- the scale
+
+abbrev pub scale_line : ℤ → Line
+scale_line d = numbers_line (codes "scale") (d ∷ [])
+
+abbrev pub scale_row : Line → Option Kind
+scale_row = numbers_line_fault (codes "scale") (from_to (pos 1) MAX_PRICE ∷ [])
+
+abbrev pub scale_in : Line → ℤ
+scale_in = number_in 1
+
+pub record IsScaleInRange (d : ℤ) : Type 0 where
+  pub low : pos 1 ≤ℤ d
+  pub high : d ≤ℤ MAX_PRICE
+
+-- ---- the price of a word
+
+abbrev pub base_line : ℤ → Line
+base_line z = numbers_line (codes "base") (z ∷ [])
+
+abbrev pub base_row : Line → Option Kind
+base_row = numbers_line_fault (codes "base") (of_size MAX_PRICE ∷ [])
+
+abbrev pub base_in : Line → ℤ
+base_in = number_in 1
+
+-- what a price may be
+pub record IsPriceInRange (z : ℤ) : Type 0 where
+  pub low : neg_ℤ MAX_PRICE ≤ℤ z
+  pub high : z ≤ℤ MAX_PRICE
+
+-- ---- the price of a pair, of which the positions are known
+
+abbrev pub pair_line : ℕ × ℕ → ℤ → Line
+pair_line p y = numbers_line (codes "pair") (pos p.0 ∷ pos p.1 ∷ y ∷ [])
+
+abbrev pub pair_row : ℕ × ℕ → Line → Option Kind
+pair_row p = named_fault (codes "pair") (known_fault (pos p.0) (known_fault (pos p.1) (numbers_fault (of_size MAX_PRICE ∷ []))))
+
+abbrev pub pair_price_in : Line → ℤ
+pair_price_in = number_in 3

@@ -1,0 +1,64 @@
+-- The line of a value, a fraction in lowest terms.
+use Rattle.std.specs.Prelude.{ℕ, ◌-◌, ◌%◌, Bool, not, ◌&&◌, ◌==◌, List, [], ◌∷◌, ◌++◌, get_or, Option, Some, None, is_some, if◌then◌else◌, ℤ, pos, ◌≤ℤ◌, codes, unsigned_abs}
+use Rattle.std.specs.List.{slice_split, list_all, range_with_len}
+use Rattle.std.specs.Option.{unwrap_or, option_map_or}
+use Rattle.std.specs.Int.{IsGcd}
+use Rattle.sc_fraction.specs.Quotient.{quotient_text}
+use Rattle.sc_chain.specs.declared.fault.Kind.{Kind}
+use Rattle.sc_chain.specs.declared.fault.Kind.TheVariants.{Form, Range}
+use Rattle.sc_text.specs.declared.limits.TheConstants.{MAX_VALUE}
+use Rattle.sc_text.specs.Lines.{Line, Field, spaced, fields, number_of}
+use Rattle.sc_text.specs.Faults.{NumberRange, between, named_fault}
+
+-- a numerator and a denominator
+abbrev pub Quotient : Type 0
+Quotient = ℤ × ℤ
+
+-- the line of a fraction
+abbrev pub value_line : Quotient → Line
+value_line v = spaced (codes "value" ∷ quotient_text v.0 v.1 ∷ [])
+
+-- the numbers round the slash of a field
+abbrev pub halves : Field → List Field
+halves field = slice_split (λ b. b == 47) field
+
+-- whether no number from 2 on divides both
+unfoldable pub are_coprime : ℕ → ℕ → Bool
+are_coprime a b = list_all (λ k. not ((a % k == 0) && (b % k == 0))) (range_with_len 2 (b - 1))
+
+-- the fault of a fraction whose numerator and denominator are due to be in these ranges
+abbrev pub quotient_fault : NumberRange → NumberRange → Option ℤ → Option ℤ → Option Kind
+quotient_fault nums dens (Some a) (Some b) =
+    if nums a && dens b && are_coprime (unsigned_abs a) (unsigned_abs b) then None else Some Range
+quotient_fault nums dens (Some a) None = Some Form
+quotient_fault nums dens None b = Some Form
+
+-- the fault of a field that is due to be such a fraction
+abbrev pub fraction_fault : NumberRange → NumberRange → List Field → Option Kind
+fraction_fault nums dens [] = Some Form
+fraction_fault nums dens (a ∷ []) = Some Form
+fraction_fault nums dens (a ∷ b ∷ []) = quotient_fault nums dens (number_of a) (number_of b)
+fraction_fault nums dens (a ∷ b ∷ c ∷ more) = Some Form
+
+abbrev pub value_fields_fault : List Field → Option Kind
+value_fields_fault [] = Some Form
+value_fields_fault (f ∷ []) = fraction_fault (between 0 MAX_VALUE) (between 1 MAX_VALUE) (halves f)
+value_fields_fault (f ∷ g ∷ fs) = Some Form
+
+abbrev pub value_row : Line → Option Kind
+value_row = named_fault (codes "value") value_fields_fault
+
+-- the fraction in a line
+abbrev pub half_in : ℕ → Line → ℤ
+half_in i line = unwrap_or (number_of (get_or (halves (get_or (fields line) 1 [])) i [])) (pos 0)
+
+abbrev pub value_in : Line → Quotient
+value_in line = (half_in 0 line, half_in 1 line)
+
+-- what a value may be
+pub record IsValueInRange (v : Quotient) : Type 0 where
+  pub num_low : pos 0 ≤ℤ v.0
+  pub num_high : v.0 ≤ℤ pos MAX_VALUE
+  pub den_low : pos 1 ≤ℤ v.1
+  pub den_high : v.1 ≤ℤ pos MAX_VALUE
+  pub lowest : IsGcd (unsigned_abs v.0) (unsigned_abs v.1) 1
