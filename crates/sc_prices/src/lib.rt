@@ -5,7 +5,7 @@
 mod certificate;
 mod flaws;
 pub mod laws;
-mod step_price;
+mod prices;
 mod tightness;
 mod verdict;
 mod vouching;

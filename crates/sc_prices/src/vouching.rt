@@ -1,6 +1,6 @@
 //! Whether tables vouch for a price list.
 
-ghost use Rattle.std.specs.Prelude.{◌≡◌, ◌<◌, ℤ, length, IsTrue, Some, OnOk, IfErr};
+ghost use Rattle.std.specs.Prelude.{◌≡◌, ◌↔◌, ◌<◌, ℤ, length, IsTrue, Some, OnOk, IfErr};
 ghost use Rattle.sc_theory.specs.Chains.{positions};
 ghost use Rattle.sc_theory.specs.Prices.{pairs as inverse_pairs, Vouch};
 ghost use Rattle.sc_certificate.specs.Sizes.{FitsCounts, AreTablesOf};
@@ -9,7 +9,7 @@ ghost use Rattle.sc_prices.specs.Flaws.{Undercuts, HasStepFlaw, IsFirstTableFlaw
 ghost use Rattle.sc_prices.specs.Rows.{IsFirstInRow};
 
 use crate::flaws::TableFlaw;
-use crate::step_price::step_price;
+use crate::prices::step_price;
 use sc_certificate::{PriceList, Tables};
 use sc_chain::{Chain, Pairs};
 

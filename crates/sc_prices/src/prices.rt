@@ -1,6 +1,6 @@
-//! The price of a step.
+//! The prices of words and of steps.
 
-ghost use Rattle.std.specs.Prelude.{◌≡◌, ◌<◌, length};
+ghost use Rattle.std.specs.Prelude.{◌≡◌, ◌<◌, length, get_or, pos};
 ghost use Rattle.sc_theory.specs.Chains.{positions};
 ghost use Rattle.sc_theory.specs.Prices.{pairs as inverse_pairs, price, base_price};
 ghost use Rattle.sc_text.specs.PriceLines.{IsPriceInRange};
@@ -24,6 +24,15 @@ fn pair_price(pairs: &Pairs, list: &PriceList, p: usize, q: usize) -> i128
     }
 }
 
+/// The price of a word.
+pub(crate) fn word_price(list: &PriceList, w: usize) -> i128
+    requires { w < length list.now.base }
+    ensures price { result ≡ get_or list.now.base w (pos 0) }
+    ensures small { IsPriceInRange result }
+{
+    list.base()[w]
+}
+
 /// The price of the word that a position is the first of, and 0 for other positions.
 fn base_price(chain: &Chain, list: &PriceList, j: usize) -> i128
     requires in_range { j < positions chain.now }
@@ -33,7 +42,7 @@ fn base_price(chain: &Chain, list: &PriceList, j: usize) -> i128
 {
     let word = chain.word_of(j);
     if j == chain.first_of(word) {
-        list.base()[word]
+        word_price(list, word)
     } else {
         0
     }

@@ -1,0 +1,4 @@
+pub mod StepPrices
+pub mod Sizes
+pub mod TableFlaws
+pub mod Failing
