@@ -1,1 +1,5 @@
 pub mod SmallLists
+pub mod FormatLaws
+pub mod PivotLaws
+pub mod CertificateLaws
+pub mod TextLaws

@@ -1,40 +1,26 @@
 -- Numbers, lists and tables in their ranges, by tests.
 use Rattle.std.proofs.Common.{◌≡◌, ◌↔◌, ℕ, Bool, true, false, ◌&&◌, List, [], ◌∷◌, Option, Some, None, ℤ, pos, neg_ℤ, ◌≤ℤ◌, refl, arith, IsTrue}
-use Rattle.std.specs.Prelude.{int_le}
 use Rattle.std.specs.Option.{option_map_or}
 use Rattle.std.specs.List.{AllByRecursion, list_all}
 use Rattle.sc_text.specs.declared.limits.TheConstants.{MAX_PRICE, MAX_ENTRY}
-use Rattle.sc_text.specs.PriceLines.{from_to, of_size, IsScaleInRange, IsPriceInRange}
+use Rattle.sc_text.specs.Faults.{from_to}
+use Rattle.sc_text.specs.PriceLines.{of_size, IsScaleInRange, IsPriceInRange}
 use Rattle.sc_text.specs.TableLines.{IsEntryInRange}
+use Rattle.sc_text.proofs.LineLaws.{in_range_test, in_range_from_test}
 use Rattle.sc_certificate.specs.Sizes.{IsSmallList, list_of}
 use Rattle.std.proofs.lemmas.Bool.{and_parts, and_from}
-use Rattle.std.proofs.lemmas.Bool.Decides.{nat_tests}
-use Rattle.std.proofs.lemmas.Int.{ints}
-
-pub from_test : (low high z : ℤ) → (int_le low z && int_le z high) ≡ true → (low ≤ℤ z) × (z ≤ℤ high)
-from_test low high z h =
-    let both = and_parts (int_le low z) (int_le z high) h in
-    let first : low ≤ℤ z = grind (arith, ints, nat_tests, both.0) in
-    let second : z ≤ℤ high = grind (arith, ints, nat_tests, both.1) in
-    (first, second)
-
-pub to_test : (low high z : ℤ) → low ≤ℤ z → z ≤ℤ high → (int_le low z && int_le z high) ≡ true
-to_test low high z h k =
-    let first : int_le low z ≡ true = grind (arith, ints, nat_tests) in
-    let second : int_le z high ≡ true = grind (arith, ints, nat_tests) in
-    and_from (int_le low z) (int_le z high) first second
 
 pub scale_from_test : (d : ℤ) → from_to (pos 1) MAX_PRICE d ≡ true → IsScaleInRange d
-scale_from_test d h = let ends = from_test (pos 1) MAX_PRICE d h in record { low = ends.0; high = ends.1 }
+scale_from_test d h = let ends = in_range_from_test (pos 1) MAX_PRICE d h in record { low = ends.low_end; high = ends.high_end }
 
 pub scale_to_test : (d : ℤ) → IsScaleInRange d → from_to (pos 1) MAX_PRICE d ≡ true
-scale_to_test d h = to_test (pos 1) MAX_PRICE d h.low h.high
+scale_to_test d h = in_range_test (pos 1) MAX_PRICE d h.low h.high
 
 pub price_from_test : (z : ℤ) → of_size MAX_PRICE z ≡ true → IsPriceInRange z
-price_from_test z h = let ends = from_test (neg_ℤ MAX_PRICE) MAX_PRICE z h in record { low = ends.0; high = ends.1 }
+price_from_test z h = let ends = in_range_from_test (neg_ℤ MAX_PRICE) MAX_PRICE z h in record { low = ends.low_end; high = ends.high_end }
 
 pub price_to_test : (z : ℤ) → IsPriceInRange z → of_size MAX_PRICE z ≡ true
-price_to_test z h = to_test (neg_ℤ MAX_PRICE) MAX_PRICE z h.low h.high
+price_to_test z h = in_range_test (neg_ℤ MAX_PRICE) MAX_PRICE z h.low h.high
 
 pub all_from_test : {A : Type 0} (test : A → Bool) (P : A → Type 0) → ((x : A) → test x ≡ true → P x) → (xs : List A) → list_all test xs ≡ true → AllByRecursion P xs
 all_from_test test P is [] h = tt
@@ -78,11 +64,11 @@ small_decided d base pair = (
 
 entry_from_test : (e : Option ℤ) → option_map_or (of_size MAX_ENTRY) e true ≡ true → IsEntryInRange e
 entry_from_test None h = tt
-entry_from_test (Some z) h = from_test (neg_ℤ MAX_ENTRY) MAX_ENTRY z h
+entry_from_test (Some z) h = let ends = in_range_from_test (neg_ℤ MAX_ENTRY) MAX_ENTRY z h in (ends.low_end, ends.high_end)
 
 entry_to_test : (e : Option ℤ) → IsEntryInRange e → option_map_or (of_size MAX_ENTRY) e true ≡ true
 entry_to_test None h = refl
-entry_to_test (Some z) h = to_test (neg_ℤ MAX_ENTRY) MAX_ENTRY z h.0 h.1
+entry_to_test (Some z) h = in_range_test (neg_ℤ MAX_ENTRY) MAX_ENTRY z h.0 h.1
 
 pub entries_decided : (es : List (Option ℤ)) → IsTrue (list_all (λ e. option_map_or (of_size MAX_ENTRY) e true) es) ↔ AllByRecursion IsEntryInRange es
 entries_decided es = (

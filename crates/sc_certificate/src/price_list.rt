@@ -2,7 +2,8 @@
 
 ghost use Rattle.std.specs.Prelude.{◌≡◌, ◌↔◌, ◌&&◌, pos, IsSome, IfSome};
 ghost use Rattle.std.specs.List.{list_all};
-ghost use Rattle.sc_text.specs.PriceLines.{from_to, of_size};
+ghost use Rattle.sc_text.specs.Faults.{from_to};
+ghost use Rattle.sc_text.specs.PriceLines.{of_size};
 ghost use Rattle.sc_certificate.specs.Sizes.{IsSmallList, list_of};
 
 use sc_text::limits::MAX_PRICE;

@@ -1,5 +1,5 @@
 -- The inverse pairs of a chain, and the rows of two positions.
-use Rattle.std.proofs.Common.{◌≡◌, ℕ, ◌<◌, ◌≤◌, Bool, true, false, not, ◌&&◌, ltb, List, length, get_or, Option, Some, None, IsSome, ◌↔◌, ℤ, pos, neg_ℤ, inl, inr, ◌⊎◌, arith, refl, sym, ap, subst, ◌∙◌}
+use Rattle.std.proofs.Common.{◌≡◌, ℕ, ◌<◌, ◌≤◌, Bool, true, false, not, ◌&&◌, ltb, List, length, get_or, Option, Some, None, IsSome, ◌↔◌, pos, neg_ℤ, inl, inr, arith, refl, sym, ap, subst, ◌∙◌}
 use Rattle.std.specs.Option.{option_map, option_or}
 use Rattle.std.specs.List.{AllByRecursion}
 use Rattle.std.proofs.lemmas.Bool.{cases_lt, cases_order, false≢true, and_parts, and_from, and_left, ltb-true, lt-ltb, le-ltb, cond-true, cond-false}
@@ -13,7 +13,7 @@ use Rattle.sc_chain.specs.declared.sign.Sign.{Sign}
 use Rattle.sc_chain.specs.declared.sign.Sign.TheVariants.{Plus, Minus}
 use Rattle.sc_chain.specs.Pairs.{place_in, row_in, row_price}
 use Rattle.sc_chain.specs.PairTable.{ArePairsBelow}
-use Rattle.sc_chain.proofs.PairLists.{IsIn, every, once, place-le, place_at, all-firsts, apart-firsts, in-firsts}
+use Rattle.sc_chain.proofs.PairLists.{IsIn, every, once, place_at, all-firsts, apart-firsts, in-firsts}
 
 -- two positions with inverse letters, the lesser one first
 pub record IsInversePair (c : Chain) (p q : ℕ) : Type 0 where

@@ -1,5 +1,5 @@
 -- The table of the places of pairs, one pair after another.
-use Rattle.std.proofs.Common.{◌≡◌, ◌≢◌, ℕ, suc, ◌+◌, ◌*◌, ◌/◌, ◌<◌, ◌≤◌, true, false, eqb, List, [], ◌∷◌, ◌++◌, length, get_or, take, drop, set, Option, Some, None, inl, inr, arith, refl, sym, ap, subst, ◌∙◌, length-append, suc-mul, take-append-drop}
+use Rattle.std.proofs.Common.{◌≡◌, ◌≢◌, ℕ, suc, ◌+◌, ◌*◌, ◌/◌, ◌<◌, ◌≤◌, false, eqb, List, [], ◌∷◌, ◌++◌, length, get_or, take, drop, set, Option, Some, None, inl, inr, arith, sym, ap, subst, ◌∙◌, length-append, suc-mul, take-append-drop}
 use Rattle.std.proofs.lemmas.Bool.{cases_Bool, cases_lt, true≢false, and_from, eq-eqb}
 use Rattle.std.proofs.lemmas.Nat.{div-mul-add}
 use Rattle.std.proofs.lemmas.List.{length-take-le, take_more, get_or-set_other, length-set}
@@ -10,7 +10,7 @@ use Rattle.sc_theory.specs.Prices.{place_of}
 use Rattle.sc_chain.specs.declared.sign.Sign.TheVariants.{Plus}
 use Rattle.sc_chain.specs.Pairs.{place_in, row_in}
 use Rattle.sc_chain.specs.PairTable.{ArePairsBelow, IsTableOf}
-use Rattle.sc_chain.proofs.PairLists.{IsIn, same, same_itself, same_is, place_here, place_next, place-le, place_at, place-append_left, place-append_right}
+use Rattle.sc_chain.proofs.PairLists.{same, same_itself, same_is, place_here, place_next, place-le, place_at, place-append_left, place-append_right}
 use Rattle.sc_chain.proofs.PairLaws.{place_in-yes, place_in-no, row-plus}
 
 -- what isn't below n stands in no pair

@@ -1,10 +1,10 @@
 -- The tests of steps, closed walks and polygons tell these; and what a polygon keeps.
-use Rattle.std.proofs.Common.{◌≡◌, ◌≢◌, ℕ, zero, suc, ◌<◌, ◌≤◌, Bool, true, false, not, ◌&&◌, eqb, ltb, List, [], ◌∷◌, length, get_or, ◌↔◌, IsTrue, inl, inr, arith, refl, sym, ap, ◌∙◌}
+use Rattle.std.proofs.Common.{◌≡◌, ◌≢◌, ℕ, zero, suc, ◌<◌, ◌≤◌, Bool, true, not, ◌&&◌, eqb, ltb, List, [], ◌∷◌, length, get_or, ◌↔◌, IsTrue, inl, inr, arith, refl, sym, ap, ◌∙◌}
 use Rattle.std.specs.Bool.{OnTrue}
 use Rattle.std.specs.List.{AllByRecursion, list_all}
-use Rattle.std.proofs.lemmas.Bool.{cases_lt, and_parts, and_from, not-true, eqb-true, eqb-false, eq-eqb, ne_eqb, ltb-true, lt-ltb, false≢true, OnTrue_from, OnTrue_at}
+use Rattle.std.proofs.lemmas.Bool.{cases_lt, and_parts, and_from, not-true, eqb-false, ne_eqb, ltb-true, lt-ltb, false≢true, OnTrue_from, OnTrue_at}
 use Rattle.sc_algebra.proofs.Cycles.{pigeonhole}
-use Rattle.sc_theory.specs.Words.{inverse_letter, is_inverse}
+use Rattle.sc_theory.specs.Words.{is_inverse}
 use Rattle.sc_theory.specs.Chains.{Chain, positions, letter, succ}
 use Rattle.sc_theory.specs.Walks.{IsStep, WalksBack, IsClosedWalk, IsFromLeast, HasNoRepeat, IsPolygon}
 use Rattle.sc_theory.proofs.WordLaws.{letter_from_is_inverse, is_inverse-inverse_letter}

@@ -1,6 +1,6 @@
 -- What the fields of the pairs keep: each pair is of a lesser and a greater position, and stands once; and the table has
 -- the place of each.
-use Rattle.std.specs.Prelude.{◌≡◌, ℕ, ◌+◌, ◌*◌, ◌<◌, ◌≤◌, List, length, get_or, Option, Some, None}
+use Rattle.std.specs.Prelude.{◌≡◌, ℕ, ◌+◌, ◌*◌, ◌<◌, ◌≤◌, List, length, get_or, Option, None}
 use Rattle.sc_theory.specs.Prices.{place_of}
 use Rattle.sc_chain.specs.declared.limits.TheConstants.{MAX_POSITIONS}
 use Rattle.sc_chain.specs.declared.pairs.Pairs.TheInside.{Inside}

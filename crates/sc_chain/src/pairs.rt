@@ -1,6 +1,6 @@
 //! The inverse pairs of a chain: the pairs of positions with inverse letters, by the lesser position, then the greater.
 
-ghost use Rattle.std.specs.Prelude.{◌≡◌, ◌<◌, ◌≤◌, ◌*◌, ◌+◌, ◌++◌, ◌↔◌, length, map, filter, get_or, IfOk, OnOk, IfSome, IsSome};
+ghost use Rattle.std.specs.Prelude.{◌≡◌, ◌<◌, ◌≤◌, ◌*◌, ◌++◌, ◌↔◌, length, map, filter, get_or, IfOk, OnOk, IfSome, IsSome};
 ghost use Rattle.sc_theory.specs.Words.{inverse_letter};
 ghost use Rattle.sc_theory.specs.Chains.{Chain as AnyChain, positions, letter};
 ghost use Rattle.sc_theory.specs.Prices.{pairs, is_pair, all_positions};
@@ -38,7 +38,8 @@ impl Model for Pairs {
 /// Writes the pairs whose lesser position is p behind the others.
 fn append_pairs(pairs: &mut Vec<(usize, usize)>, chain: &Chain, p: usize) -> Result<(), AllocError>
     requires { p < positions chain.now }
-    ensures { OnOk result (pairs.new.items ≡ pairs.old.items ++ map (λ q. (p, q)) (filter (is_pair chain.now p) (all_positions chain.now))) }
+    ensures { OnOk result
+        (pairs.new.items ≡ pairs.old.items ++ map (λ q. (p, q)) (filter (is_pair chain.now p) (all_positions chain.now))) }
 {
     let positions = chain.positions();
     for q in p + 1..positions {
@@ -127,7 +128,8 @@ impl Pairs {
     pub fn row_of(&self, p: usize, q: usize) -> Option<(usize, Sign)>
         ensures row { result ≡ row_in self.now p q }
         ensures in_range { IfSome result (λ found. found.0 < length self.now) }
-        ensures inverse { (c : AnyChain) → self.now ≡ pairs c → p < positions c → q < positions c → (IsSome result ↔ (letter c q ≡ inverse_letter (letter c p))) }
+        ensures inverse { (c : AnyChain) → self.now ≡ pairs c → p < positions c → q < positions c →
+            (IsSome result ↔ (letter c q ≡ inverse_letter (letter c p))) }
     {
         match self.place(p, q) {
             Some(row) => Some((row, Sign::Plus)),

@@ -1,7 +1,7 @@
 -- The text of a surface in its ranges has no fault at any line.
-use Rattle.std.proofs.Common.{◌≡◌, ◌≢◌, ℕ, zero, suc, ◌+◌, ◌-◌, ◌<◌, ◌≤◌, Bool, true, false, List, [], ◌∷◌, ◌++◌, map, length, Option, Some, None, pos, codes, refl, sym, ap, subst, ◌∙◌, append_assoc, append-nil, arith}
-use Rattle.std.specs.List.{AllByRecursion, sum_by}
-use Rattle.std.proofs.lemmas.List.{map_push, length-append, length_push}
+use Rattle.std.proofs.Common.{◌≡◌, ◌≢◌, ℕ, ◌+◌, ◌-◌, ◌≤◌, true, List, [], ◌∷◌, ◌++◌, map, length, Option, Some, None, pos, codes, refl, sym, ap, subst, ◌∙◌, append_assoc, append-nil, arith}
+use Rattle.std.specs.List.{AllByRecursion}
+use Rattle.std.proofs.lemmas.List.{map_push, length_push}
 use Rattle.std.proofs.lemmas.List.Sums.{sum_by-append}
 use Rattle.sc_whole.specs.Spelling.{spelling}
 use Rattle.sc_theory.specs.declared.Side.{Side}
@@ -12,15 +12,15 @@ use Rattle.sc_theory.specs.Fatgraphs.{Sides}
 use Rattle.sc_chain.specs.declared.fault.Kind.{Kind}
 use Rattle.sc_chain.specs.declared.limits.TheConstants.{MAX_WORDS, MAX_POSITIONS}
 use Rattle.sc_text.specs.declared.limits.TheConstants.{MAX_COPIES, MAX_SIDES}
-use Rattle.sc_text.specs.Lines.{Line, parts, text_of}
+use Rattle.sc_text.specs.Lines.{Line, parts}
 use Rattle.sc_text.specs.Words.{word_line, spelled, IsWordInRange}
 use Rattle.sc_text.specs.Sides.{side_line, IsSideInRange}
-use Rattle.sc_text.specs.Faults.{due_after, line_fault, part_fault, IsFaultless}
-use Rattle.sc_text.specs.Surfaces.{heading, ending, count_line, words_lines, sides_lines, surface_lines, surface_text, surface_table, word_row, side_row, IsChainInRange, IsSurfaceInRange}
+use Rattle.sc_text.specs.Faults.{due_after, IsFaultless}
+use Rattle.sc_text.specs.Surfaces.{heading, ending, count_line, words_lines, sides_lines, surface_lines, surface_text, surface_table, word_row, side_row, IsSurfaceInRange}
 use Rattle.sc_text.specs.Readers.{words_so_far, sides_so_far}
 use Rattle.sc_text.proofs.LineLaws.{lacks, AllLack, parts-text_of, lacks-append, lacks-spelling}
 use Rattle.sc_text.proofs.WordLaws.{lacks-spelled}
-use Rattle.sc_text.proofs.SurfaceLaws.{start_due, headed_due, words_due, copies_due, side_count_due, side_due, end_due, nothing_due, row_fault, fault_when_due, rest_when_done, good_literal, good_count, good_side, good_word}
+use Rattle.sc_text.proofs.SurfaceLaws.{start_due, headed_due, words_due, copies_due, side_count_due, side_due, end_due, nothing_due, fault_when_due, rest_when_done, good_literal, good_count, good_side, good_word}
 use Rattle.sc_text.proofs.FaultLaws.{HasRead, read_nothing, read_more, read_all}
 
 -- ---- no line has a line feed

@@ -6,3 +6,7 @@ pub mod PrintLaws
 pub mod Faultless
 pub mod Readable
 pub mod OneText
+pub mod CoprimeLaws
+pub mod ValueLaws
+pub mod EntryLaws
+pub mod KindLaws

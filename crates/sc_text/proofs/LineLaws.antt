@@ -1,19 +1,21 @@
 -- Laws of lines, fields and numbers.
-use Rattle.std.proofs.Common.{◌≡◌, ◌≢◌, ℕ, zero, suc, ◌+◌, ◌-◌, ◌<◌, ◌≤◌, Bool, true, false, not, ◌&&◌, cond, eqb, ltb, List, [], ◌∷◌, ◌++◌, map, length, get_or, take, drop, Option, Some, None, ℤ, pos, negsuc, neg_ℤ, refl, sym, ap, subst, ◌∙◌, append_assoc, append-nil, arith, All, inl, inr}
-use Rattle.std.specs.List.{slice_split, onto_first, position, position_or_len, join_with_byte, list_all, AllByRecursion, AllPass}
-use Rattle.std.specs.Int.{IsInRange}
+use Rattle.std.proofs.Common.{◌≡◌, ◌≢◌, ℕ, zero, suc, ◌+◌, ◌-◌, ◌<◌, ◌≤◌, Bool, true, false, not, eqb, ltb, List, [], ◌∷◌, ◌++◌, map, length, get_or, take, drop, Option, Some, None, ℤ, pos, negsuc, neg_ℤ, ◌≤ℤ◌, refl, sym, ap, subst, ◌∙◌, append_assoc, append-nil, arith, All, inl, inr}
+use Rattle.std.specs.List.{slice_split, onto_first, position, position_or_len, join_with_byte, list_all, AllByRecursion}
+use Rattle.std.specs.Prelude.{int_le, FitsSigned}
+use Rattle.std.specs.Int.{IsInRange, w128}
 use Rattle.std.specs.Int.Digits.{digits_of, number_from_digits}
 use Rattle.std.specs.Str.{bytes_eq}
-use Rattle.std.proofs.lemmas.Bool.{cases_Bool, ltb-true, ltb-false, not-true, ne_eqb, and_parts, and_from, false≢true}
-use Rattle.std.proofs.lemmas.Option.{cond_some, none-some}
+use Rattle.std.proofs.lemmas.Bool.{cases_Bool, ltb-true, ltb-false, not-true, ne_eqb, and_parts, and_from}
+use Rattle.std.proofs.lemmas.Option.{cond_some, none-some, same_Some}
 use Rattle.std.proofs.lemmas.Int.Digits.{number_digits_of}
 use Rattle.std.proofs.lemmas.List.Splits.{slice_split-cons_no, slice_split_first, slice_split_at, slice_split_none, length-slice_split, join_with_byte-slice_split}
 use Rattle.std.proofs.lemmas.Slice.Eq.{bytes_eq-Decides}
 use Rattle.sc_whole.specs.Spelling.{natural_spelling, spelling}
+use Rattle.sc_theory.proofs.Decisions.{le_at}
 use Rattle.sc_whole.proofs.SpellingLaws.{first-natural_spelling, digits-natural_spelling}
 use Rattle.sc_chain.specs.declared.fault.Kind.{Kind}
-use Rattle.sc_text.specs.Faults.{named_fault}
-use Rattle.sc_text.specs.Lines.{Line, Field, text_of, parts, spaced, fields, natural_written, number_written, number_of, IsNarrowed, TakesNumber}
+use Rattle.sc_text.specs.Faults.{from_to, is_named, named_fault}
+use Rattle.sc_text.specs.Lines.{Line, Field, text_of, parts, spaced, fields, natural_written, number_written, number_of, first_number, IsNarrowed, TakesNumber, TellsNumber}
 
 -- ---- cutting at a byte
 
@@ -47,6 +49,12 @@ split_none p xs e =
 pub split_some : (p : ℕ → Bool) (xs : List ℕ) → slice_split p xs ≢ []
 split_some p xs e = absurd (omega (arith, length-slice_split p xs, ap length e))
 
+-- ---- lists
+
+pub All_push : {A : Type 0} (P : A → Type 0) (xs : List A) (x : A) → AllByRecursion P xs → P x → AllByRecursion P (xs ++ x ∷ [])
+All_push P [] x h p = (p, tt)
+All_push P (y ∷ xs) x h p = (h.0, All_push P xs x h.1 p)
+
 -- ---- joining
 
 -- whether a list doesn't have a byte
@@ -56,7 +64,7 @@ lacks c bs = list_all (λ b. not (eqb b c)) bs
 abbrev pub AllLack : ℕ → List (List ℕ) → Type 0
 AllLack c xss = AllByRecursion (λ xs. lacks c xs ≡ true) xss
 
-lacking : (c : ℕ) (bs : List ℕ) → lacks c bs ≡ true → All (λ b. eqb b c ≡ false) bs
+pub lacking : (c : ℕ) (bs : List ℕ) → lacks c bs ≡ true → All (λ b. eqb b c ≡ false) bs
 lacking c [] h k d l = absurd (omega arith)
 lacking c (b ∷ bs) h zero d l = not-true _ (and_parts _ _ h).0
 lacking c (b ∷ bs) h (suc k) d l = lacking c bs (and_parts _ _ h).1 k d (omega arith)
@@ -132,12 +140,16 @@ digits_lack c (b ∷ bs) small h =
     let other : eqb b c ≡ false = ne_eqb b c (λ e. omega arith) in
     rw other (digits_lack c bs small h.1)
 
-pub lacks-spelling : (c : ℕ) (z : ℤ) → c < 45 → lacks c (spelling z) ≡ true
+-- a spelling has no byte but digits and a minus sign
+pub lacks-spelling_but : (c : ℕ) (z : ℤ) → c < 48 → c ≢ 45 → lacks c (spelling z) ≡ true
 unfolding spelling
-lacks-spelling c (pos n) small = digits_lack c (natural_spelling n) (omega arith) (digits-natural_spelling n)
-lacks-spelling c (negsuc n) small =
-    let other : eqb 45 c ≡ false = ne_eqb 45 c (λ e. omega arith) in
-    rw other (digits_lack c (natural_spelling (suc n)) (omega arith) (digits-natural_spelling (suc n)))
+lacks-spelling_but c (pos n) small minus = digits_lack c (natural_spelling n) small (digits-natural_spelling n)
+lacks-spelling_but c (negsuc n) small minus =
+    let other : eqb 45 c ≡ false = ne_eqb 45 c (λ e. minus (sym e)) in
+    rw other (digits_lack c (natural_spelling (suc n)) small (digits-natural_spelling (suc n)))
+
+pub lacks-spelling : (c : ℕ) (z : ℤ) → c < 45 → lacks c (spelling z) ≡ true
+lacks-spelling c z small = lacks-spelling_but c z (omega arith) (λ e. omega arith)
 
 pub number_of_none : (f : Field) → ((z : ℤ) → f ≡ spelling z → ⊥) → number_of f ≡ None
 number_of_none f none =
@@ -154,6 +166,34 @@ taken_is old new number z t e =
     let same : z ≡ t.value = subst (IsNarrowed t.value) e t.narrowed in
     t.taken ∙ ap (λ (f : Field). f ∷ new) (number_of_is t.field t.value t.spells ∙ ap spelling (sym same))
 
+-- a field that tells a number in 128 bits spells it
+pub told_is : (field : Field) (number : Option ℤ) (z : ℤ) → TellsNumber field number → number ≡ Some z → field ≡ spelling z
+told_is field number z t e =
+    let same : z ≡ t.value = subst (IsNarrowed t.value) e t.narrowed in
+    number_of_is field t.value t.spells ∙ ap spelling (sym same)
+
+-- the next field isn't the number z, where what was taken isn't z, or is no number
+pub other_number : (old new : List Field) (number : Option ℤ) (z : ℤ) → FitsSigned w128 z → TakesNumber old new number → (number ≡ Some z → ⊥) → is_named (spelling z) old ≡ false
+other_number old new number z fits t other =
+    elim (cases_Bool (bytes_eq t.field (spelling z))) [
+      | inl same ↦
+          let value : t.value ≡ z = same_Some _ _ (sym t.spells ∙ number_of_from t.field z ((bytes_eq-Decides t.field (spelling z)).0 same)) in
+          absurd (narrowed_otherwise number z fits (subst (λ (v : ℤ). IsNarrowed v number) value t.narrowed) other)
+      | inr apart ↦ rw t.taken apart
+    ]
+  where
+    narrowed_otherwise : (number : Option ℤ) (z : ℤ) → FitsSigned w128 z → IsNarrowed z number → (number ≡ Some z → ⊥) → ⊥
+    narrowed_otherwise None z fits h other = h fits
+    narrowed_otherwise (Some x) z fits h other = other (ap Some h)
+
+pub no_number : (fs : List Field) (z : ℤ) → first_number fs ≡ None → is_named (spelling z) fs ≡ false
+no_number [] z h = refl
+no_number (f ∷ fs) z h =
+    elim (cases_Bool (bytes_eq f (spelling z))) [
+      | inl same ↦ absurd (none-some z (sym h ∙ number_of_from f z ((bytes_eq-Decides f (spelling z)).0 same)))
+      | inr apart ↦ apart
+    ]
+
 pub line_from_fields : (line : Line) (fs : List Field) → fields line ≡ fs → line ≡ spaced fs
 line_from_fields line fs e = sym (spaced-fields line) ∙ ap spaced e
 
@@ -164,3 +204,25 @@ narrowed_is value z number h e = sym (subst (IsNarrowed value) e h)
 -- the fault of a line whose first field is the name that is due
 pub named_is : (name : List ℕ) (others : List Field → Option Kind) (line : Line) (fs : List Field) → fields line ≡ name ∷ fs → named_fault name others line ≡ others fs
 named_is name others line fs e = rw (e, same_bytes name) refl
+
+-- ---- ranges
+
+le_test : (x y : ℤ) → x ≤ℤ y → int_le x y ≡ true
+le_test x y h =
+    elim (cases_Bool (int_le x y)) [
+      | inl e ↦ e
+      | inr e ↦ absurd (let none : ⊥ = rw e at h.le in none)
+    ]
+
+-- a number in a range, as the test and as the facts
+pub in_range_test : (low high z : ℤ) → low ≤ℤ z → z ≤ℤ high → from_to low high z ≡ true
+in_range_test low high z h k = and_from _ _ (le_test low z h) (le_test z high k)
+
+pub record IsFromTo (low high z : ℤ) : Type 0 where
+  pub low_end : low ≤ℤ z
+  pub high_end : z ≤ℤ high
+
+pub in_range_from_test : (low high z : ℤ) → from_to low high z ≡ true → IsFromTo low high z
+in_range_from_test low high z h =
+    let ends = and_parts (int_le low z) (int_le z high) h in
+    record { low_end = le_at low z ends.0; high_end = le_at z high ends.1 }

@@ -1,5 +1,5 @@
 -- No two surfaces in their ranges have the same text.
-use Rattle.std.proofs.Common.{◌≡◌, ℕ, zero, suc, ◌+◌, List, [], ◌∷◌, ◌++◌, map, length, get_or, take, drop, Option, Some, None, codes, ℤ, pos, refl, sym, ap, ◌∙◌, arith}
+use Rattle.std.proofs.Common.{◌≡◌, ℕ, List, [], ◌∷◌, ◌++◌, map, length, get_or, take, drop, codes, pos, refl, sym, ap, ◌∙◌}
 use Rattle.std.specs.List.{AllByRecursion}
 use Rattle.std.proofs.lemmas.List.{take_at, drop_at, length-map, append_cancel_right}
 use Rattle.std.proofs.lemmas.Option.{same_Some}
@@ -13,10 +13,9 @@ use Rattle.sc_chain.specs.Spelling.{word_of}
 use Rattle.sc_text.specs.Lines.{Line, Field, fields, parts}
 use Rattle.sc_text.specs.Words.{word_line, spelled, IsWordInRange}
 use Rattle.sc_text.specs.Sides.{side_line}
-use Rattle.sc_text.specs.Surfaces.{heading, ending, count_line, words_lines, sides_lines, surface_lines, surface_text, count_in, IsSurfaceInRange}
-use Rattle.sc_text.proofs.LineLaws.{lacks}
+use Rattle.sc_text.specs.Surfaces.{ending, count_line, sides_lines, surface_lines, surface_text, count_in, IsSurfaceInRange}
 use Rattle.sc_text.proofs.WordLaws.{word_again}
-use Rattle.sc_text.proofs.SurfaceLaws.{fields-count_line, fields-word_line, fields-side_line, count_in-count_line}
+use Rattle.sc_text.proofs.SurfaceLaws.{fields-word_line, fields-side_line, count_in-count_line}
 use Rattle.sc_text.proofs.Faultless.{parts-surface_text}
 
 same_pos : (m n : ℕ) → spelling (pos m) ≡ spelling (pos n) → m ≡ n

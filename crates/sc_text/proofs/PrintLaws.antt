@@ -1,5 +1,5 @@
 -- Laws of printing: what is appended piece by piece.
-use Rattle.std.proofs.Common.{◌≡◌, ℕ, ◌+◌, ◌<◌, List, [], ◌∷◌, ◌++◌, map, length, get_or, codes, take, drop, Result, Ok, Err, refl, sym, ap, subst, ◌∙◌, append_assoc, append-nil, arith}
+use Rattle.std.proofs.Common.{◌≡◌, ℕ, ◌+◌, ◌<◌, List, [], ◌∷◌, ◌++◌, map, length, get_or, codes, pos, take, drop, Result, Ok, Err, refl, sym, ap, ◌∙◌, append_assoc, append-nil}
 use Rattle.std.specs.Prelude.{OnErr}
 use Rattle.std.specs.List.{flat_map}
 use Rattle.std.proofs.lemmas.List.{take-append-drop, take_more, drop_more, flat_map_more}
@@ -9,6 +9,8 @@ use Rattle.sc_theory.specs.Chains.{Chain}
 use Rattle.sc_theory.specs.Fatgraphs.{Sides}
 use Rattle.sc_text.specs.Surfaces.{heading, ending, count_line, words_lines, sides_lines, surface_text}
 use Rattle.sc_text.specs.Printing.{AppendsPart}
+use Rattle.sc_whole.specs.Spelling.{spelling}
+use Rattle.sc_text.specs.TableLines.{Entry, entry_field, from_line}
 
 pub nothing_appended : (old new text : List ℕ) → new ≡ old → AppendsPart old new text
 nothing_appended old new text e = record { written = []; left = text; whole = refl; appended = e ∙ sym (append-nil old) }
@@ -87,3 +89,9 @@ pub surface_pieces : (c : Chain) (n : ℕ) (g : Sides) → surface_text c n g �
 surface_pieces c n g =
     let last : text_of (sides_lines g ++ ending ∷ []) ≡ text_of (sides_lines g) ++ ended ending = flat_map-append ended (sides_lines g) (ending ∷ []) ∙ ap (λ (t : List ℕ). text_of (sides_lines g) ++ t) (append-nil (ended ending)) in
     ap (λ (t : List ℕ). ended heading ++ t) (flat_map-append ended (words_lines c) (count_line (codes "copies") n ∷ (sides_lines g ++ ending ∷ [])) ∙ ap (λ (t : List ℕ). text_of (words_lines c) ++ (ended (count_line (codes "copies") n) ++ t)) last)
+
+-- the pieces of the line of a row
+pub from_pieces : (s : ℕ) (es : List Entry) → ended (from_line s es) ≡ codes "from " ++ (spelling (pos s) ++ (flat_map (λ e. 32 ∷ entry_field e) es ++ 10 ∷ []))
+from_pieces s es =
+    ap (λ (t : List ℕ). t ++ 10 ∷ []) (ap (λ (t : List ℕ). codes "from " ++ t) (line_flat entry_field (spelling (pos s)) es))
+    ∙ ap (λ (t : List ℕ). codes "from " ++ t) (append_assoc (spelling (pos s)) (flat_map (λ e. 32 ∷ entry_field e) es) (10 ∷ []))

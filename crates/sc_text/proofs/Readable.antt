@@ -1,6 +1,5 @@
 -- A text without a fault is the text of a surface in its ranges.
-use Rattle.std.proofs.Common.{◌≡◌, ◌≢◌, ℕ, zero, suc, ◌+◌, ◌-◌, ◌<◌, ◌≤◌, Bool, true, false, ◌&&◌, cond, eqb, leb, List, [], ◌∷◌, ◌++◌, map, length, drop, Option, Some, None, is_some, codes, ℤ, pos, negsuc, refl, sym, ap, subst, ◌∙◌, append_assoc, arith, inl, inr}
-use Rattle.std.specs.List.{AllByRecursion}
+use Rattle.std.proofs.Common.{◌≡◌, ◌≢◌, ℕ, suc, ◌≤◌, true, false, ◌&&◌, cond, eqb, leb, List, [], ◌∷◌, ◌++◌, map, length, drop, Option, Some, None, is_some, codes, ℤ, pos, negsuc, refl, sym, ap, ◌∙◌, append_assoc, arith, inl, inr}
 use Rattle.std.specs.Option.{option_map_or}
 use Rattle.std.specs.Prelude.{int_le}
 use Rattle.std.specs.Str.{bytes_eq}
@@ -13,25 +12,25 @@ use Rattle.std.proofs.lemmas.Slice.Eq.{bytes_eq-Decides}
 use Rattle.sc_whole.specs.Spelling.{spelling}
 use Rattle.sc_theory.specs.declared.Side.{Side}
 use Rattle.sc_theory.specs.Words.{Word}
-use Rattle.sc_theory.specs.Chains.{Chain, positions}
+use Rattle.sc_theory.specs.Chains.{Chain}
 use Rattle.sc_theory.specs.Fatgraphs.{Sides}
 use Rattle.sc_chain.specs.declared.fault.Kind.{Kind}
 use Rattle.sc_chain.specs.declared.fault.Kind.TheVariants.{Form, Range, NotReduced, Ended, Rest}
-use Rattle.sc_chain.specs.declared.limits.TheConstants.{MAX_WORDS, MAX_POSITIONS}
+use Rattle.sc_chain.specs.declared.limits.TheConstants.{MAX_WORDS}
 use Rattle.sc_chain.specs.Spelling.{word_of}
 use Rattle.sc_text.specs.declared.limits.TheConstants.{MAX_WEIGHT, MAX_COPIES, MAX_SIDES, MAX_LABEL, MAX_SIDE}
 use Rattle.sc_text.specs.declared.surface.Stage.{Stage}
 use Rattle.sc_text.specs.declared.surface.Stage.TheVariants as stages
-use Rattle.sc_text.specs.Lines.{Line, Field, fields, spaced, number_of, parts, text_of}
-use Rattle.sc_text.specs.Words.{word_line, spelled, is_reduced, IsWordInRange}
+use Rattle.sc_text.specs.Lines.{Line, Field, fields, spaced, number_of, parts}
+use Rattle.sc_text.specs.Words.{word_line, is_reduced, IsWordInRange}
 use Rattle.sc_text.specs.Sides.{side_line, IsSideInRange}
-use Rattle.sc_text.specs.Faults.{NumberRange, between, are_numbers, are_in_range, numbers_fault, literal_fault, is_named, named_fault, numbers_line_fault, word_fault, weighted_word_fault, word_fields_fault, due_after, line_fault, part_fault, fault_at, IsFaultless}
-use Rattle.sc_text.specs.Surfaces.{heading, ending, count_line, words_lines, surface_lines, surface_text, surface_table, word_row, side_row, IsChainInRange, IsSurfaceInRange}
-use Rattle.sc_text.specs.Readers.{words_so_far, sides_so_far, lines_at, IsStage, IsReadingAt, AreCopies}
-use Rattle.sc_text.proofs.LineLaws.{number_of_is, line_from_fields, text_from_parts, split_some}
+use Rattle.sc_text.specs.Faults.{NumberRange, between, are_numbers, are_in_range, numbers_fault, literal_fault, is_named, named_fault, numbers_line_fault, word_fault, weighted_word_fault, word_fields_fault, due_after, line_fault, part_fault, IsFaultless}
+use Rattle.sc_text.specs.Surfaces.{heading, ending, count_line, surface_lines, surface_text, surface_table, word_row, side_row, IsSurfaceInRange}
+use Rattle.sc_text.specs.Readers.{words_so_far, sides_so_far, lines_at, IsReadingAt}
+use Rattle.sc_text.proofs.LineLaws.{All_push, number_of_is, line_from_fields, text_from_parts, split_some}
 use Rattle.sc_text.proofs.WordLaws.{spelled_back, reduced_from}
-use Rattle.sc_text.proofs.SurfaceLaws.{start_due, headed_due, words_due, copies_due, side_count_due, side_due, end_due, nothing_due, row_fault, fault_when_due, fault_when_done, due_at, ended_when_due, rest_when_done}
-use Rattle.sc_text.proofs.FaultLaws.{HasRead, read_nothing, read_more, fault_at_part, ended_part}
+use Rattle.sc_text.proofs.SurfaceLaws.{start_due, headed_due, words_due, copies_due, side_count_due, side_due, end_due, nothing_due, fault_when_due, fault_when_done, due_at, ended_when_due, rest_when_done}
+use Rattle.sc_text.proofs.FaultLaws.{HasRead, read_nothing, read_more, fault_at_part}
 use Rattle.sc_text.proofs.Faultless.{positions-push}
 
 -- ---- lines by their faults
@@ -48,7 +47,7 @@ pub record IsNamed (name : List ℕ) (others : List Field → Option Kind) (fs :
   pub fields : fs ≡ name ∷ rest
   pub good : others rest ≡ None
 
-named_from : (name : List ℕ) (others : List Field → Option Kind) (fs : List Field) → cond (is_named name fs) (others (drop 1 fs)) (Some Form) ≡ None → IsNamed name others fs
+pub named_from : (name : List ℕ) (others : List Field → Option Kind) (fs : List Field) → cond (is_named name fs) (others (drop 1 fs)) (Some Form) ≡ None → IsNamed name others fs
 named_from name others [] h = absurd (none-some Form (sym h))
 named_from name others (f ∷ fs) h =
     elim (cases_Bool (bytes_eq f name)) [
@@ -56,10 +55,10 @@ named_from name others (f ∷ fs) h =
       | inr other ↦ absurd (none-some Form (sym (let fault : Some Form ≡ None = rw other at h in fault)))
     ]
 
-named_inverse : (name : List ℕ) (others : List Field → Option Kind) (line : Line) → named_fault name others line ≡ None → IsNamed name others (fields line)
+pub named_inverse : (name : List ℕ) (others : List Field → Option Kind) (line : Line) → named_fault name others line ≡ None → IsNamed name others (fields line)
 named_inverse name others line h = named_from name others (fields line) h
 
-abbrev InRanges : List NumberRange → List ℤ → Type 0
+abbrev pub InRanges : List NumberRange → List ℤ → Type 0
 InRanges [] [] = Unit {0}
 InRanges [] (z ∷ zs) = ⊥
 InRanges (r ∷ rs) [] = ⊥
@@ -87,7 +86,7 @@ numbers_from (r ∷ rs) (f ∷ fs) h k =
       }
     ] refl
 
-numbers_inverse : (rs : List NumberRange) (fs : List Field) → numbers_fault rs fs ≡ None → AreNumbers rs fs
+pub numbers_inverse : (rs : List NumberRange) (fs : List Field) → numbers_fault rs fs ≡ None → AreNumbers rs fs
 numbers_inverse rs fs h =
     elim (cases_Bool (are_numbers rs fs)) [
       | inl numbers ↦
@@ -127,7 +126,7 @@ count_from name low high line (z ∷ []) e h =
     record { count = n.natural; is = line_from_fields line _ e ∙ ap (λ (y : ℤ). spaced (name ∷ spelling y ∷ [])) n.is; low_end = n.low_end; high_end = n.high_end }
 count_from name low high line (z ∷ y ∷ zs) e h = absurd h.1
 
-count_inverse : (name : List ℕ) (low high : ℕ) (line : Line) → numbers_line_fault name (between low high ∷ []) line ≡ None → IsCountLine name low high line
+pub count_inverse : (name : List ℕ) (low high : ℕ) (line : Line) → numbers_line_fault name (between low high ∷ []) line ≡ None → IsCountLine name low high line
 count_inverse name low high line h =
     let named = named_inverse name (numbers_fault (between low high ∷ [])) line h in
     let numbers = numbers_inverse (between low high ∷ []) named.rest named.good in
@@ -153,7 +152,7 @@ side_from line (a ∷ b ∷ c ∷ []) e h =
     }
 side_from line (a ∷ b ∷ c ∷ d ∷ zs) e h = absurd h.1.1.1
 
-side_inverse : (line : Line) → side_row line ≡ None → IsSideLine line
+pub side_inverse : (line : Line) → side_row line ≡ None → IsSideLine line
 side_inverse line h =
     let rs : List NumberRange = between 0 MAX_LABEL ∷ between 0 MAX_SIDE ∷ between 0 MAX_SIDE ∷ [] in
     let named = named_inverse (codes "side") (numbers_fault rs) line h in
@@ -198,7 +197,7 @@ word_of_fields room line (f ∷ []) e h = absurd (none-some Form (sym h))
 word_of_fields room line (f ∷ letters ∷ []) e h = word_from room (number_of f) (word_of letters) line f letters e refl refl h
 word_of_fields room line (f ∷ letters ∷ g ∷ fs) e h = absurd (none-some Form (sym h))
 
-word_inverse : (room : ℕ) (line : Line) → word_row room line ≡ None → IsWordLine room line
+pub word_inverse : (room : ℕ) (line : Line) → word_row room line ≡ None → IsWordLine room line
 word_inverse room line h =
     let named = named_inverse (codes "word") (word_fields_fault room) line h in
     word_of_fields room line named.rest named.fields named.good
@@ -223,10 +222,6 @@ pub record Step (before : List Line) (line : Line) : Type 0 where
   pub now : Reading
   pub keeps : Keeps now
   pub lines : lines_of now ≡ before ++ line ∷ []
-
-All_push : {A : Type 0} (P : A → Type 0) (xs : List A) (x : A) → AllByRecursion P xs → P x → AllByRecursion P (xs ++ x ∷ [])
-All_push P [] x h p = (p, tt)
-All_push P (y ∷ xs) x h p = (h.0, All_push P xs x h.1 p)
 
 good_row : (before : List Line) (line : Line) (row : Line → Option Kind) → due_after surface_table before ≡ Some row → line_fault surface_table before line ≡ None → row line ≡ None
 good_row before line row due good = sym (fault_when_due surface_table before line row due) ∙ good

@@ -1,6 +1,6 @@
 -- The table of a surface text at the lines that were read, and the lines that have no fault.
-use Rattle.std.proofs.Common.{◌≡◌, ◌≢◌, ℕ, zero, suc, ◌+◌, ◌-◌, ◌<◌, ◌≤◌, Bool, true, false, ◌&&◌, cond, eqb, ltb, List, [], ◌∷◌, ◌++◌, map, length, get_or, take, drop, Option, Some, None, is_some, codes, ℤ, pos, refl, sym, ap, subst, ◌∙◌, append_assoc, arith, inl, inr}
-use Rattle.std.specs.List.{AllByRecursion, sum_by}
+use Rattle.std.proofs.Common.{◌≡◌, ℕ, ◌+◌, ◌-◌, ◌<◌, ◌≤◌, true, false, cond, eqb, ltb, List, [], ◌∷◌, ◌++◌, map, length, get_or, drop, Option, Some, None, is_some, codes, pos, refl, sym, ap, subst, ◌∙◌, append_assoc, arith, inl, inr}
+use Rattle.std.specs.List.{sum_by}
 use Rattle.std.proofs.lemmas.Bool.{le-ltb, lt-ltb, cases_lt}
 use Rattle.std.proofs.lemmas.List.Sums.{sum_by-cons}
 use Rattle.std.proofs.lemmas.List.{length-map, length-append, get_or_at}
@@ -10,15 +10,14 @@ use Rattle.sc_theory.specs.Words.{Word}
 use Rattle.sc_theory.specs.Chains.{Chain, positions}
 use Rattle.sc_theory.specs.Fatgraphs.{Sides}
 use Rattle.sc_chain.specs.declared.fault.Kind.{Kind}
-use Rattle.sc_chain.specs.declared.fault.Kind.TheVariants.{Form, Range, NotReduced, Ended, Rest}
+use Rattle.sc_chain.specs.declared.fault.Kind.TheVariants.{Ended, Rest}
 use Rattle.sc_chain.specs.declared.limits.TheConstants.{MAX_WORDS, MAX_POSITIONS}
-use Rattle.sc_text.specs.declared.limits.TheConstants.{MAX_WEIGHT, MAX_COPIES, MAX_SIDES, MAX_LABEL, MAX_SIDE}
-use Rattle.sc_text.specs.Lines.{Line, Field, fields, spaced, number_of}
-use Rattle.sc_chain.specs.Spelling.{word_of}
+use Rattle.sc_text.specs.declared.limits.TheConstants.{MAX_COPIES, MAX_SIDES, MAX_LABEL, MAX_SIDE}
+use Rattle.sc_text.specs.Lines.{Line, fields}
 use Rattle.sc_text.specs.Words.{word_line, spelled, IsWordInRange}
 use Rattle.sc_text.specs.Sides.{side_line, IsSideInRange}
-use Rattle.sc_text.specs.Faults.{Plan, row_at, due_after, line_fault, part_fault, between, literal_fault, numbers_fault, numbers_line_fault, named_fault, word_fault, word_fields_fault, weighted_word_fault}
-use Rattle.sc_text.specs.Surfaces.{heading, ending, count_line, surface_lines, word_row, side_row, table_of, surface_table, natural, count_in, letters_in}
+use Rattle.sc_text.specs.Faults.{Plan, row_at, due_after, line_fault, part_fault, between, literal_fault, numbers_fault, numbers_line_fault, named_fault, word_fields_fault}
+use Rattle.sc_text.specs.Surfaces.{heading, ending, count_line, word_row, side_row, table_of, surface_table, count_in, letters_in}
 use Rattle.sc_text.specs.declared.surface.Stage.{Stage}
 use Rattle.sc_text.specs.declared.surface.Stage.TheVariants as stages
 use Rattle.sc_text.specs.Readers.{words_so_far, sides_so_far, lines_at, IsReadingAt}

@@ -1,5 +1,5 @@
 -- The fault of a line, and the first fault of a text.
-use Rattle.std.specs.Prelude.{◌≡◌, ℕ, zero, suc, ◌+◌, ◌-◌, ◌<◌, Bool, true, false, ◌&&◌, ◌==◌, nat_lt, nat_le, if◌then◌else◌, List, [], ◌∷◌, take, drop, length, Option, Some, None, is_some, is_none, ℤ, pos, int_le}
+use Rattle.std.specs.Prelude.{◌≡◌, ℕ, zero, suc, ◌-◌, ◌<◌, Bool, true, false, ◌&&◌, ◌==◌, nat_lt, nat_le, if◌then◌else◌, List, [], ◌∷◌, take, drop, length, Option, Some, None, is_some, ℤ, pos, int_le}
 use Rattle.std.specs.Option.{option_map_or}
 use Rattle.std.specs.Str.{bytes_eq}
 use Rattle.sc_chain.specs.declared.fault.Kind.{Kind}
@@ -15,6 +15,9 @@ use Rattle.sc_text.specs.Words.{is_reduced}
 -- a range of whole numbers, as the test whether a number is in it
 abbrev pub NumberRange : Type 0
 NumberRange = ℤ → Bool
+
+abbrev pub from_to : ℤ → ℤ → NumberRange
+from_to low high z = int_le low z && int_le z high
 
 abbrev pub between : ℕ → ℕ → NumberRange
 between low high z = int_le (pos low) z && int_le z (pos high)

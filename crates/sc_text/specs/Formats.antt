@@ -76,6 +76,11 @@ word_in line = (natural_in 1 line, unwrap_or (word_of (get_or (fields line) 2 []
 abbrev pub side_in : Line → Side
 side_in line = record { label = natural_in 1 line; mate = natural_in 2 line; next = natural_in 3 line }
 
+-- what a count may be
+pub record IsCountInRange (low high n : ℕ) : Type 0 where
+  pub low_end : low ≤ n
+  pub high_end : n ≤ high
+
 -- what a word may be where so many letters may come
 pub record FitsIn (room : ℕ) (w : ℕ × Word) : Type 0 where
   pub in_range : IsWordInRange w

@@ -1,5 +1,5 @@
 -- Texts as lines, lines as fields, and fields as numbers.
-use Rattle.std.specs.Prelude.{◌≡◌, ℕ, ◌++◌, ◌-◌, ◌==◌, List, [], ◌∷◌, map, drop, slice_index, Option, Some, None, ℤ, pos, neg_ℤ, if◌then◌else◌, codes, FitsSigned}
+use Rattle.std.specs.Prelude.{◌≡◌, ℕ, ◌++◌, ◌-◌, ◌==◌, List, [], ◌∷◌, map, drop, slice_index, Option, Some, None, ℤ, pos, neg_ℤ, if◌then◌else◌, FitsSigned}
 use Rattle.std.specs.List.{slice_split, join_with_byte, flat_map}
 use Rattle.std.specs.Int.{w128}
 use Rattle.std.specs.Int.Digits.{number_from_digits}
@@ -51,6 +51,12 @@ number_of f = if bytes_eq f (spelling (number_written f)) then Some (number_writ
 abbrev pub IsNarrowed : ℤ → Option ℤ → Type 0
 IsNarrowed z None = FitsSigned w128 z → ⊥
 IsNarrowed z (Some x) = x ≡ z
+
+-- a field is a number
+pub record TellsNumber (field : Field) (number : Option ℤ) : Type 0 where
+  pub value : ℤ
+  pub spells : number_of field ≡ Some value
+  pub narrowed : IsNarrowed value number
 
 -- the fields of a line of which nothing may be left
 abbrev pub fields_left : Option Line → List Field

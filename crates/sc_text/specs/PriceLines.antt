@@ -1,18 +1,14 @@
 -- The lines of a price list.
-use Rattle.std.specs.Prelude.{ℕ, Bool, ◌&&◌, List, [], ◌∷◌, get_or, Option, Some, None, if◌then◌else◌, ℤ, pos, neg_ℤ, ◌≤ℤ◌, int_le, codes}
+use Rattle.std.specs.Prelude.{ℕ, List, [], ◌∷◌, drop, get_or, Option, Some, if◌then◌else◌, ℤ, pos, neg_ℤ, ◌≤ℤ◌, codes}
 use Rattle.std.specs.Option.{unwrap_or}
-use Rattle.std.specs.Str.{bytes_eq}
 use Rattle.sc_whole.specs.Spelling.{spelling}
 use Rattle.sc_chain.specs.declared.fault.Kind.{Kind}
 use Rattle.sc_chain.specs.declared.fault.Kind.TheVariants.{Form}
 use Rattle.sc_text.specs.declared.limits.TheConstants.{MAX_PRICE}
 use Rattle.sc_text.specs.Lines.{Line, Field, numbers_line, fields, number_of}
-use Rattle.sc_text.specs.Faults.{NumberRange, named_fault, numbers_fault, numbers_line_fault}
+use Rattle.sc_text.specs.Faults.{NumberRange, from_to, is_named, named_fault, numbers_fault, numbers_line_fault}
 
--- the numbers from low to high, and those of at most this size
-abbrev pub from_to : ℤ → ℤ → NumberRange
-from_to low high z = int_le low z && int_le z high
-
+-- the numbers of at most this size
 abbrev pub of_size : ℤ → NumberRange
 of_size most = from_to (neg_ℤ most) most
 
@@ -22,8 +18,7 @@ number_in i line = unwrap_or (number_of (get_or (fields line) i [])) (pos 0)
 
 -- the fault of fields that are due to begin with a known number
 abbrev pub known_fault : ℤ → (List Field → Option Kind) → List Field → Option Kind
-known_fault z others [] = Some Form
-known_fault z others (f ∷ fs) = if bytes_eq f (spelling z) then others fs else Some Form
+known_fault z others fs = if is_named (spelling z) fs then others (drop 1 fs) else Some Form
 
 -- ---- the scale
 

@@ -6,7 +6,7 @@ use Rattle.sc_theory.specs.Fatgraphs.{Sides}
 use Rattle.sc_chain.specs.declared.fault.Kind.{Kind}
 use Rattle.sc_chain.specs.declared.limits.TheConstants.{MAX_WORDS, MAX_POSITIONS}
 use Rattle.sc_text.specs.declared.limits.TheConstants.{MAX_COPIES, MAX_SIDES, MAX_LABEL, MAX_SIDE}
-use Rattle.sc_text.specs.Lines.{Line, Field, text_of, numbers_line, fields, number_of}
+use Rattle.sc_text.specs.Lines.{Line, text_of, numbers_line, fields, number_of}
 use Rattle.sc_text.specs.Words.{word_line, IsWordInRange}
 use Rattle.sc_text.specs.Sides.{side_line, IsSideInRange}
 use Rattle.sc_text.specs.Faults.{Table, Plan, row_at, between, literal_fault, numbers_line_fault, named_fault, word_fields_fault}

@@ -1,5 +1,5 @@
 -- The line of a row of a distance table.
-use Rattle.std.specs.Prelude.{◌≡◌, ℕ, ◌==◌, ◌&&◌, Bool, true, List, [], ◌∷◌, map, drop, length, Option, Some, None, is_some, if◌then◌else◌, ℤ, pos, neg_ℤ, ◌≤ℤ◌, codes}
+use Rattle.std.specs.Prelude.{◌≡◌, ℕ, ◌==◌, ◌&&◌, Bool, true, List, ◌∷◌, map, drop, length, Option, Some, None, is_some, if◌then◌else◌, ℤ, pos, neg_ℤ, ◌≤ℤ◌, codes}
 use Rattle.std.specs.List.{list_all, AllByRecursion}
 use Rattle.std.specs.Option.{option_map_or}
 use Rattle.std.specs.Str.{bytes_eq}
@@ -33,6 +33,10 @@ is_entry_in_range f = if bytes_eq f (codes "-") then true else option_map_or (of
 
 abbrev pub entry_of : Field → Entry
 entry_of f = if bytes_eq f (codes "-") then None else number_of f
+
+-- the fault of a field that is due to be an entry
+abbrev pub entry_fault : Field → Option Kind
+entry_fault f = if is_entry f then (if is_entry_in_range f then None else Some Range) else Some Form
 
 -- the fault of fields that are due to be so many entries
 abbrev pub entries_fault : ℕ → List Field → Option Kind

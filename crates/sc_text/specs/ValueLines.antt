@@ -1,8 +1,10 @@
 -- The line of a value, a fraction in lowest terms.
-use Rattle.std.specs.Prelude.{ℕ, ◌-◌, ◌%◌, Bool, not, ◌&&◌, ◌==◌, List, [], ◌∷◌, ◌++◌, get_or, Option, Some, None, is_some, if◌then◌else◌, ℤ, pos, ◌≤ℤ◌, codes, unsigned_abs}
+use Rattle.std.specs.Prelude.{ℕ, ◌-◌, ◌%◌, Bool, not, ◌&&◌, ◌==◌, List, [], ◌∷◌, get_or, Option, Some, None, if◌then◌else◌, ℤ, pos, ◌≤ℤ◌, codes, unsigned_abs}
 use Rattle.std.specs.List.{slice_split, list_all, range_with_len}
-use Rattle.std.specs.Option.{unwrap_or, option_map_or}
+use Rattle.std.specs.Option.{unwrap_or}
 use Rattle.std.specs.Int.{IsGcd}
+use Rattle.sc_fraction.specs.declared.frac.Frac.{Frac}
+use Rattle.sc_fraction.specs.Frac.{numerator, denominator}
 use Rattle.sc_fraction.specs.Quotient.{quotient_text}
 use Rattle.sc_chain.specs.declared.fault.Kind.{Kind}
 use Rattle.sc_chain.specs.declared.fault.Kind.TheVariants.{Form, Range}
@@ -13,6 +15,9 @@ use Rattle.sc_text.specs.Faults.{NumberRange, between, named_fault}
 -- a numerator and a denominator
 abbrev pub Quotient : Type 0
 Quotient = ℤ × ℤ
+
+abbrev pub quotient_of : Frac → Quotient
+quotient_of f = (numerator f, denominator f)
 
 -- the line of a fraction
 abbrev pub value_line : Quotient → Line

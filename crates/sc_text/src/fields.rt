@@ -1,11 +1,13 @@
 //! Lines, their fields, and the numbers in them.
 
-ghost use Rattle.std.specs.Prelude.{◌≡◌, ◌≢◌, ℤ, pos, ◌≤◌, ◌<◌, ◌==◌, ◌∷◌, [], false, length, position, IfSome, IfNone, IfOk, IfErr, OnOk};
+ghost use Rattle.std.specs.Prelude.{◌≡◌, ◌≢◌, ℤ, pos, ◌≤ℤ◌, ◌≤◌, ◌<◌, ◌==◌, ◌∷◌, [], false, length, position, IfSome, IfNone, IfOk, IfErr, OnOk};
 ghost use Rattle.std.specs.List.{slice_split};
 ghost use Rattle.sc_chain.specs.declared.fault.Kind.TheVariants as kinds;
-ghost use Rattle.sc_text.specs.Lines.{fields, first_number, TakesNumber, IsNarrowed};
-ghost use Rattle.sc_text.specs.Faults.{is_named, between, literal_fault, numbers_line_fault};
+ghost use Rattle.sc_text.specs.Lines.{fields, first_number, TakesNumber, TellsNumber, IsNarrowed, numbers_line};
+ghost use Rattle.sc_text.specs.Lines as lines;
+ghost use Rattle.sc_text.specs.Faults.{is_named, from_to, between, literal_fault, numbers_line_fault};
 ghost use Rattle.sc_text.specs.Surfaces as surfaces;
+ghost use Rattle.sc_whole.specs.Spelling.{spelling};
 
 use sc_chain::Kind;
 use sc_whole::{is_decimal, read_decimal};
@@ -91,10 +93,17 @@ impl<'a> Fields<'a> {
         let Some(field) = self.next() else {
             return Err(Kind::Form);
         };
-        match read_decimal(field) {
-            Some(number) => Ok(Some(number)),
-            None if is_decimal(field) => Ok(None),
-            None => Err(Kind::Form),
+        number_of(field)
+    }
+
+    /// Passes the number that has to stand next.
+    pub fn known(&mut self, number: u32) -> Result<(), Kind>
+        ensures ok { OnOk result (self.old ≡ spelling (pos number) ∷ self.new) }
+        ensures err { IfErr result (λ kind. (kind ≡ kinds.Form) × (is_named (spelling (pos number)) self.old ≡ false)) }
+    {
+        match self.number()? {
+            Some(next) if next == i128::from(number) => Ok(()),
+            _ => Err(Kind::Form),
         }
     }
 
@@ -110,6 +119,18 @@ impl<'a> Fields<'a> {
     }
 }
 
+/// The number that a field spells. `None` stands for one past 128 bits.
+pub fn number_of(field: &[u8]) -> Result<Option<i128>, Kind>
+    ensures ok { IfOk result (TellsNumber field.now) }
+    ensures err { IfErr result (λ kind. (kind ≡ kinds.Form) × (lines.number_of field.now ≡ None)) }
+{
+    match read_decimal(field) {
+        Some(number) => Ok(Some(number)),
+        None if is_decimal(field) => Ok(None),
+        None => Err(Kind::Form),
+    }
+}
+
 /// A number of a text, where it is in its range.
 pub fn in_range(number: Option<i128>, low: u32, high: u32) -> Result<u32, Kind>
     ensures ok { IfOk result (λ n. (number ≡ Some (pos n)) × (low ≤ n) × (n ≤ high)) }
@@ -119,6 +140,17 @@ pub fn in_range(number: Option<i128>, low: u32, high: u32) -> Result<u32, Kind>
         Some(number) if number >= i128::from(low) && number <= i128::from(high) => Ok(
             number as u32,
         ),
+        _ => Err(Kind::Range),
+    }
+}
+
+/// A number of a text, where it is in its range.
+pub fn within(number: Option<i128>, low: i128, high: i128) -> Result<i128, Kind>
+    ensures ok { IfOk result (λ z. (number ≡ Some z) × (low ≤ℤ z) × (z ≤ℤ high)) }
+    ensures err { IfErr result (λ kind. (kind ≡ kinds.Range) × ((z : ℤ) → IsNarrowed z number → from_to low high z ≡ false)) }
+{
+    match number {
+        Some(number) if number >= low && number <= high => Ok(number),
         _ => Err(Kind::Range),
     }
 }
@@ -145,4 +177,16 @@ pub fn count_line(line: &[u8], name: &[u8], low: u32, high: u32) -> Result<u32, 
     let number = fields.number()?;
     fields.end()?;
     in_range(number, low, high)
+}
+
+/// The number of a line `NAME NUMBER`.
+pub fn number_line(line: &[u8], name: &[u8], low: i128, high: i128) -> Result<i128, Kind>
+    ensures ok { IfOk result (λ z. (line.now ≡ numbers_line name.now (z ∷ [])) × (low ≤ℤ z) × (z ≤ℤ high)) }
+    ensures err { IfErr result (λ kind. numbers_line_fault name.now (from_to low high ∷ []) line.now ≡ Some kind) }
+{
+    let mut fields = Fields::of(line);
+    fields.name(name)?;
+    let number = fields.number()?;
+    fields.end()?;
+    within(number, low, high)
 }

@@ -7,16 +7,22 @@ mod fields;
 mod kinds;
 mod laws;
 pub mod limits;
+mod prices;
 mod printing;
 mod sides;
 mod surface;
+mod tables;
+mod values;
 mod words;
 
 pub use fault::LineFault;
-pub use fields::{Fields, count_line, cut, in_range, literal_line};
+pub use fields::{Fields, count_line, cut, in_range, literal_line, number_line, number_of, within};
 pub use kinds::kinds_of_lines;
 pub use laws::{
     faultless_is_surface_text, surface_text_is_faultless, surface_text_is_of_one_surface,
+};
+pub use prices::{
+    base_line, pair_line, print_base_line, print_pair_line, print_scale_line, scale_line,
 };
 pub use printing::{
     Field, print_count_line, print_line, print_side_line, print_sides, print_surface_text,
@@ -24,6 +30,8 @@ pub use printing::{
 };
 pub use sides::side_line;
 pub use surface::{Surface, SurfaceReader, read_surface_text};
+pub use tables::{from_line, print_from_line};
+pub use values::{print_value_line, value_line};
 pub use words::word_line;
 
 #[cfg(test)]

@@ -11,6 +11,7 @@ ghost use Rattle.sc_text.specs.Sides as side_lines;
 ghost use Rattle.sc_text.specs.Surfaces as surfaces;
 
 use sc_chain::{Letter, Word};
+use sc_fraction::Frac;
 use sc_theory::Side;
 use sc_whole::print_decimal;
 use std::alloc::AllocError;
@@ -24,6 +25,8 @@ pub enum Field<'a> {
     Number(i128),
     /// The letters of a word.
     Letters(&'a [Letter]),
+    /// A fraction as `NUM/DEN`.
+    Fraction(&'a Frac),
 }
 
 fn letter_byte(letter: Letter) -> u8
@@ -54,6 +57,7 @@ fn print_field(field: Field, out: &mut Vec<u8>) -> Result<(), AllocError>
         Field::Text(text) => out.extend_from_slice(text),
         Field::Number(number) => print_decimal(number, out),
         Field::Letters(letters) => print_letters(letters, out),
+        Field::Fraction(fraction) => fraction.print(out),
     }
 }
 

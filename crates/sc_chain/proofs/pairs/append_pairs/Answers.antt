@@ -1,6 +1,6 @@
-use Rattle.std.proofs.Common.{◌≡◌, ◌<◌, ℕ, ◌+◌, false, true, ap, sym, ◌∙◌, List, [], ◌∷◌, ◌++◌, append-nil, arith}
+use Rattle.std.proofs.Common.{◌≡◌, ℕ, ◌+◌, ap, sym, ◌∙◌, List, [], ◌∷◌, ◌++◌, append-nil, arith}
 use Rattle.sc_theory.specs.Prices.{is_pair}
-use Rattle.sc_chain.proofs.PairLists.{seconds, seconds-none, seconds-kept, seconds-passed}
+use Rattle.sc_chain.proofs.PairLists.{seconds-none, seconds-kept, seconds-passed}
 use Rattle.sc_chain.proofs.PairLaws.{pair_test, pair_test_above}
 use Rattle.sc_chain.proofs.pairs.append_pairs.Goals as goal
 use Rattle.sc_chain.proofs.pairs.append_pairs.Goals.{then-is_inverse+in_ok-push, else-is_inverse}

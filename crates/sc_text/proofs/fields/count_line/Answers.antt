@@ -1,7 +1,7 @@
-use Rattle.std.proofs.Common.{◌≡◌, ◌∙◌, ap, sym, List, [], ◌∷◌, Some, pos, ◌≤◌}
+use Rattle.std.proofs.Common.{◌≡◌, [], ◌∷◌, Some, pos, ◌≤◌}
 use Rattle.std.proofs.lemmas.Result.{IfOk-weaker}
 use Rattle.sc_whole.specs.Spelling.{spelling}
-use Rattle.sc_text.specs.Lines.{Field, fields}
+use Rattle.sc_text.specs.Lines.{fields}
 use Rattle.sc_text.proofs.LineLaws.{taken_is, line_from_fields}
 use Rattle.sc_text.proofs.fields.count_line.Goals as goal
 

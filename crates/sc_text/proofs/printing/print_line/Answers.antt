@@ -1,13 +1,9 @@
-use Rattle.std.proofs.Common.{◌≡◌, ◌∙◌, ◌+◌, ◌<◌, ◌++◌, List, [], ◌∷◌, map, take, drop, length, get_or, codes, refl, sym, ap, subst, append_assoc, append-nil, arith, rules}
+use Rattle.std.proofs.Common.{◌≡◌, ◌∙◌, ◌+◌, ◌++◌, List, [], ◌∷◌, map, take, drop, sym, ap, subst, append_assoc, arith}
 use Rattle.std.specs.List.{flat_map}
-use Rattle.std.proofs.lemmas.List.{map-append, take-append-drop, take_all}
-use Rattle.std.proofs.lemmas.Result.{on_err_weaker, on_ok_weaker}
-use Rattle.sc_text.specs.Lines.{Line, ended, text_of}
-use Rattle.sc_text.specs.Printing.{AppendsPart, field_of}
-use Rattle.sc_text.specs.Words.{spelled, word_line}
-use Rattle.sc_text.specs.Sides.{side_line}
-use Rattle.sc_text.specs.Surfaces.{heading, ending, count_line, words_lines, sides_lines, surface_text}
-use Rattle.sc_text.proofs.PrintLaws.{nothing_appended, part_after, stopped, pieces_more, lines_at, line_parts, line_field, line_flat, on_err}
+use Rattle.std.proofs.lemmas.List.{take_all}
+use Rattle.sc_text.specs.Lines.{spaced, ended}
+use Rattle.sc_text.specs.Printing.{field_of}
+use Rattle.sc_text.proofs.PrintLaws.{part_after, stopped, line_parts, line_field, line_flat, on_err}
 use Rattle.sc_text.proofs.printing.print_line.Goals as goal
 
 pub returns-in_err-push-clause-err : goal.returns-in_err-push-clause-err
@@ -19,7 +15,10 @@ pub returns-in_err-print_field-clause-err : goal.returns-in_err-print_field-clau
 returns-in_err-print_field-clause-err c =
     let i = c.loop-field.field-index in
     let spaced_out = c.in_ok-push.ensures.items ∙ ap (λ (t : List _). t ++ 32 ∷ []) c.loop-field.invariant ∙ append_assoc c.args.out.now.items _ (32 ∷ []) in
-    on_err _ (part_after _ c.push.new.self.items _ _ _ _ _ spaced_out c.in_err-print_field.ensures.err (line_field field_of c.args.name.now c.args.fields.now i _ c.loop-field-test.true))
+    let name = c.args.name.now in
+    let fields = c.args.fields.now in
+    let whole = subst (λ f. ended (spaced (name ∷ map field_of fields)) ≡ ((name ++ flat_map (λ x. 32 ∷ field_of x) (take i fields)) ++ 32 ∷ []) ++ (field_of f ++ (flat_map (λ x. 32 ∷ field_of x) (drop (i + 1) fields) ++ 10 ∷ []))) (sym c.field-item.is) (line_field field_of name fields i c.field-item.result c.loop-field-test.true) in
+    on_err _ (part_after _ c.push.new.self.items _ _ _ _ _ spaced_out c.in_err-print_field.ensures.err whole)
 
 pub returns-in_err-push-2-clause-err : goal.returns-in_err-push-2-clause-err
 returns-in_err-push-2-clause-err c =

@@ -1,13 +1,7 @@
-use Rattle.std.proofs.Common.{◌≡◌, ◌∙◌, ◌+◌, ◌<◌, ◌++◌, List, [], ◌∷◌, map, take, drop, length, get_or, codes, refl, sym, ap, subst, append_assoc, append-nil, arith, rules}
-use Rattle.std.specs.List.{flat_map}
-use Rattle.std.proofs.lemmas.List.{map-append, take-append-drop, take_all}
-use Rattle.std.proofs.lemmas.Result.{on_err_weaker, on_ok_weaker}
-use Rattle.sc_text.specs.Lines.{Line, ended, text_of}
-use Rattle.sc_text.specs.Printing.{AppendsPart, field_of}
-use Rattle.sc_text.specs.Words.{spelled, word_line}
-use Rattle.sc_text.specs.Sides.{side_line}
-use Rattle.sc_text.specs.Surfaces.{heading, ending, count_line, words_lines, sides_lines, surface_text}
-use Rattle.sc_text.proofs.PrintLaws.{nothing_appended, part_after, stopped, pieces_more, lines_at, line_parts, line_field, line_flat, on_err}
+use Rattle.std.proofs.Common.{◌≡◌, ◌+◌, ◌++◌, map, take, drop, sym, subst}
+use Rattle.sc_text.specs.Lines.{ended, text_of}
+use Rattle.sc_text.specs.Words.{word_line}
+use Rattle.sc_text.proofs.PrintLaws.{part_after, lines_at, on_err}
 use Rattle.sc_text.proofs.printing.print_word_lines.Goals as goal
 
 pub print_word_line-requires : goal.print_word_line-requires

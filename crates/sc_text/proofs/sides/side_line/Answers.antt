@@ -1,4 +1,4 @@
-use Rattle.std.proofs.Common.{◌≡◌, List, [], ◌∷◌, pos, codes, rules}
+use Rattle.std.proofs.Common.{◌≡◌, [], ◌∷◌, pos, codes}
 use Rattle.sc_whole.specs.Spelling.{spelling}
 use Rattle.sc_text.specs.Lines.{fields}
 use Rattle.sc_text.proofs.LineLaws.{taken_is, line_from_fields}

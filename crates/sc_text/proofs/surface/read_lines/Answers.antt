@@ -1,8 +1,6 @@
-use Rattle.std.proofs.Common.{◌≡◌, ◌∙◌, ℕ, zero, suc, ◌≤◌, ◌++◌, List, [], ◌∷◌, length, Option, Some, None, ap, sym, subst, refl, arith}
-use Rattle.std.specs.Prelude.{IfNone}
+use Rattle.std.proofs.Common.{◌≡◌, ◌∙◌, ◌++◌, [], ◌∷◌, ap, subst}
 use Rattle.sc_text.specs.Lines.{Line, parts, text_of}
-use Rattle.sc_text.specs.Faults.{fault_at, part_fault, IsFaultOf}
-use Rattle.sc_text.specs.Surfaces.{surface_table, surface_lines}
+use Rattle.sc_text.specs.Surfaces.{surface_table}
 use Rattle.sc_text.proofs.LineLaws.{split_some, text_from_parts}
 use Rattle.sc_text.proofs.FaultLaws.{HasRead, read_nothing, read_more, read_all, fault_at_line, first_fault_here}
 use Rattle.sc_text.proofs.surface.read_lines.Goals as goal

@@ -1,8 +1,8 @@
-use Rattle.std.proofs.Common.{◌≡◌, ◌≤◌, ◌∙◌, ℕ, ℤ, ap, sym, subst, length, Some, pos, true, false, refl, arith}
+use Rattle.std.proofs.Common.{◌≡◌, ◌∙◌, ℤ, ap, sym, subst, length, Some, pos, true, refl, arith}
 use Rattle.std.proofs.lemmas.Bool.{false≢true}
 use Rattle.std.proofs.lemmas.Result.{err_from_is_err_and}
 use Rattle.sc_theory.specs.Words.{IsReduced}
-use Rattle.sc_text.specs.Words.{spelled, IsWordInRange}
+use Rattle.sc_text.specs.Words.{IsWordInRange}
 use Rattle.sc_text.specs.Faults.{word_fault}
 use Rattle.sc_text.proofs.LineLaws.{narrowed_is}
 use Rattle.sc_text.proofs.WordLaws.{spells_word, letters_of, weighted_form, weighted_is, word_of_letters, letters_nonempty, length-letters_of, spelled_back, word_fault_weight, word_fault_room, word_fault_unreduced}

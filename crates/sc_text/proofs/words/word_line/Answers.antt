@@ -1,10 +1,9 @@
-use Rattle.std.proofs.Common.{◌≡◌, ◌≤◌, ◌∙◌, ℕ, ap, sym, subst, List, [], ◌∷◌, length, Option, Some, pos, codes}
+use Rattle.std.proofs.Common.{◌≡◌, ◌≤◌, ◌∙◌, ap, sym, subst, [], ◌∷◌, length, Option, Some, pos, codes}
 use Rattle.std.proofs.lemmas.Result.{IfOk-weaker, IfErr-weaker}
-use Rattle.sc_theory.specs.Words.{Word}
 use Rattle.sc_chain.specs.declared.fault.Kind.{Kind}
 use Rattle.sc_text.specs.declared.fault.LineFault.{LineFault}
 use Rattle.sc_whole.specs.Spelling.{spelling}
-use Rattle.sc_text.specs.Lines.{Field, fields}
+use Rattle.sc_text.specs.Lines.{fields}
 use Rattle.sc_chain.specs.Spelling.{word_of}
 use Rattle.sc_text.specs.Words.{spelled, IsWordInRange}
 use Rattle.sc_text.specs.Faults.{named_fault, word_fields_fault, weighted_word_fault}

@@ -1,6 +1,4 @@
-use Rattle.std.proofs.Common.{◌≡◌, sym, subst, ◌∙◌, List, ℕ, arith}
-use Rattle.sc_theory.specs.Prices.{pairs}
-use Rattle.sc_chain.specs.PairTable.{ArePairsBelow, IsTableOf}
+use Rattle.std.proofs.Common.{arith}
 use Rattle.sc_chain.proofs.PairLaws.{pairs_below}
 use Rattle.sc_chain.proofs.pairs.Pairs.of.Goals as goal
 

@@ -1,4 +1,4 @@
-use Rattle.std.proofs.Common.{arith, sym}
+use Rattle.std.proofs.Common.{sym}
 use Rattle.sc_chain.proofs.PairTables.{outside, outside_second}
 use Rattle.sc_chain.proofs.pairs.Pairs.place.Goals as goal
 use Rattle.sc_chain.proofs.pairs.Pairs.place.Goals.{else-p-self-via-then-p-self+else-q-self, else-p-self-via-else-p-self}

@@ -1,4 +1,4 @@
-use Rattle.std.proofs.Common.{refl, ◌∙◌, sym}
+use Rattle.std.proofs.Common.{◌∙◌, sym}
 use Rattle.sc_chain.proofs.PolygonLaws.{polygon_if}
 use Rattle.sc_chain.proofs.polygon.Polygon.of.Goals as goal
 

@@ -1,8 +1,6 @@
-use Rattle.std.proofs.Common.{◌≡◌, ◌∙◌, sym, ap, is_some, true, false, length, refl, eqb, Option, None, Some, cond}
-use Rattle.sc_text.specs.declared.surface.Stage.TheVariants as stages
-use Rattle.sc_text.specs.Faults.{due_after, part_fault}
+use Rattle.std.proofs.Common.{◌≡◌, ◌∙◌, sym, ap, is_some, true, false, length, refl, eqb}
+use Rattle.sc_text.specs.Faults.{due_after}
 use Rattle.sc_text.specs.Surfaces.{surface_table}
-use Rattle.sc_text.specs.Readers.{IsReadingAt, lines_at, lines_read}
 use Rattle.sc_text.proofs.SurfaceLaws.{due_at, nothing_due, ended_when_due, rest_when_done}
 use Rattle.sc_text.proofs.surface.SurfaceReader.finish.Goals as goal
 

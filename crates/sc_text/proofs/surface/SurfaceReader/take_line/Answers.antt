@@ -1,12 +1,11 @@
-use Rattle.std.proofs.Common.{◌≡◌, ◌<◌, ◌≤◌, ◌∙◌, ℕ, ◌-◌, sym, ap, subst, List, [], length, Option, Some, codes, refl, arith}
+use Rattle.std.proofs.Common.{◌≡◌, ◌<◌, ◌≤◌, ◌∙◌, ℕ, ◌-◌, sym, ap, subst, length, Option, codes, refl, arith}
 use Rattle.std.proofs.lemmas.Result.{err_from_is_err_and}
 use Rattle.sc_theory.specs.Chains.{positions}
 use Rattle.sc_chain.specs.declared.fault.Kind.{Kind}
 use Rattle.sc_chain.specs.declared.limits.TheConstants.{MAX_WORDS, MAX_POSITIONS}
 use Rattle.sc_text.specs.declared.limits.TheConstants.{MAX_COPIES, MAX_SIDES}
-use Rattle.sc_text.specs.Faults.{line_fault}
 use Rattle.sc_text.specs.LineFaults.{IsFault}
-use Rattle.sc_text.specs.Surfaces.{heading, ending, surface_table, word_row, side_row}
+use Rattle.sc_text.specs.Surfaces.{heading, ending, surface_table, word_row}
 use Rattle.sc_text.proofs.SurfaceLaws.{start_due, headed_due, words_due, copies_due, side_count_due, side_due, end_due, nothing_due, row_fault, fault_when_done, good_literal, good_count, good_side, good_word}
 use Rattle.sc_text.proofs.surface.SurfaceReader.take_line.Goals as goal
 

@@ -1,28 +1,24 @@
 use Rattle.std.proofs.Common.{refl, rules}
 use Rattle.std.proofs.lemmas.Bool.{false≢true}
 use Rattle.sc_text.proofs.LineLaws.{number_of_from, number_of_none}
-use Rattle.sc_text.proofs.fields.Fields.number.Goals as goal
+use Rattle.sc_text.proofs.fields.number_of.Goals as goal
 
-pub returns-in-Some-read_decimal-clause-ok : goal.returns-in-Some-read_decimal-clause-ok
-returns-in-Some-read_decimal-clause-ok c =
-    let z = c.in-Some-read_decimal.number in record {
-      field = c.in-Some.field.now;
+pub returns-in-Some-clause-ok : goal.returns-in-Some-clause-ok
+returns-in-Some-clause-ok c =
+    let z = c.in-Some.number in record {
       value = z;
-      taken = c.in-Some.ensures.some;
-      spells = number_of_from _ z c.in-Some-read_decimal.ensures.spelled;
+      spells = number_of_from _ z c.in-Some.ensures.spelled;
       narrowed = search rules;
     }
 
 pub returns-in-None-clause-ok : goal.returns-in-None-clause-ok
 returns-in-None-clause-ok c =
     let found = c.if-is_decimal.ensures.0 refl in record {
-      field = c.in-Some.field.now;
       value = found.0;
-      taken = c.in-Some.ensures.some;
       spells = number_of_from _ found.0 found.1;
       narrowed = λ fits. c.in-None.ensures.refused.0 refl found.0 fits found.1;
     }
 
 pub returns-in-None-2-clause-err : goal.returns-in-None-2-clause-err
 returns-in-None-2-clause-err c =
-    (refl, rw c.in-Some.ensures.some (number_of_none c.in-Some.field.now (λ z e. false≢true (c.if-is_decimal.ensures.1 (z, e)))))
+    (refl, number_of_none c.args.field.now (λ z e. false≢true (c.if-is_decimal.ensures.1 (z, e))))

@@ -1,0 +1,294 @@
+-- The kinds of lines: which lines of each kind have no fault, and what they tell.
+use Rattle.std.proofs.Common.{◌≡◌, ℕ, true, ◌&&◌, eqb, List, [], ◌∷◌, map, length, Option, Some, None, codes, ℤ, pos, neg_ℤ, ◌≤ℤ◌, ◌<ℤ◌, ◌++◌, unsigned_abs, refl, sym, ap, subst, ◌∙◌, arith, inl, inr}
+use Rattle.std.specs.List.{list_all, join_with_byte}
+use Rattle.std.proofs.lemmas.Bool.{cases_Bool, and_parts, eqb-true, eq-eqb}
+use Rattle.std.proofs.lemmas.List.{length-map}
+use Rattle.std.proofs.lemmas.Int.{ints}
+use Rattle.std.proofs.lemmas.List.Splits.{slice_split_at, slice_split_none, join_with_byte-slice_split}
+use Rattle.std.proofs.lemmas.Option.{none-some}
+use Rattle.sc_theory.specs.declared.Side.{Side}
+use Rattle.sc_theory.specs.Words.{Word}
+use Rattle.sc_whole.specs.Spelling.{spelling}
+use Rattle.sc_fraction.specs.Quotient.{quotient_text}
+use Rattle.sc_fraction.proofs.Arithmetic.{size_positive}
+use Rattle.sc_chain.specs.declared.fault.Kind.{Kind}
+use Rattle.sc_chain.specs.declared.fault.Kind.TheVariants.{Form, Range}
+use Rattle.sc_text.specs.declared.limits.TheConstants.{MAX_PRICE, MAX_VALUE}
+use Rattle.sc_text.specs.Lines.{Line, Field, fields, numbers_line, number_of}
+use Rattle.sc_text.specs.Words.{word_line, IsWordInRange}
+use Rattle.sc_text.specs.Sides.{side_line, IsSideInRange}
+use Rattle.sc_text.specs.Faults.{from_to, between, numbers_fault, numbers_line_fault}
+use Rattle.sc_text.specs.Surfaces.{count_line, count_in, word_row, side_row}
+use Rattle.sc_text.specs.Formats.{IsLineKind, IsCountInRange, FitsIn, word_in, side_in}
+use Rattle.sc_text.specs.PriceLines.{of_size, number_in, known_fault, scale_row, scale_in, scale_line, IsScaleInRange, base_row, base_in, base_line, IsPriceInRange, pair_row, pair_price_in, pair_line}
+use Rattle.sc_text.specs.ValueLines.{Quotient, halves, are_coprime, quotient_fault, fraction_fault, value_fields_fault, value_row, value_in, value_line, IsValueInRange}
+use Rattle.sc_text.specs.TableLines.{Entry, entry_field, is_entry, is_entry_in_range, entries_fault, from_row, entries_in, from_line, IsRowInRange}
+use Rattle.sc_text.proofs.LineLaws.{lacks, lacking, lacks-append, lacks-spelling_but, number_of_is, fields-spaced, lacks-spelling, number_of-spelling, same_bytes, named_is, line_from_fields, IsFromTo, in_range_test, in_range_from_test}
+use Rattle.sc_text.proofs.CoprimeLaws.{coprime_test, coprime_from_test}
+use Rattle.sc_text.proofs.WordLaws.{word_again}
+use Rattle.sc_text.proofs.SurfaceLaws.{fields-word_line, fields-side_line, count_in-count_line, good_count, good_side, good_word}
+use Rattle.sc_text.proofs.Readable.{InRanges, named_from, named_inverse, numbers_inverse, count_inverse, side_inverse, word_inverse}
+use Rattle.sc_text.proofs.EntryLaws.{entry_fields_lack, fields_are_entries, entries_of_fields, entries_in_range, entries_from_tests}
+
+-- a line is that of a value in range
+pub record IsLineOf {A : Type 0} (line_for : A → Line) (InRange : A → Type 0) (line : Line) : Type 0 where
+  pub told : A
+  pub is : line ≡ line_for told
+  pub in_range : InRange told
+
+-- a kind by its good lines: each tells its value, and each line without a fault is one of them
+pub kind_from : {A : Type 0} (fault : Line → Option Kind) (value : Line → A) (line_for : A → Line) (InRange : A → Type 0)
+    → ((x : A) → InRange x → fault (line_for x) ≡ None)
+    → ((x : A) → InRange x → value (line_for x) ≡ x)
+    → ((line : Line) → fault line ≡ None → IsLineOf line_for InRange line)
+    → IsLineKind fault value line_for InRange
+kind_from fault value line_for InRange good value_is inverse =
+    let tells = λ (line : Line) (h : fault line ≡ None). ap value (inverse line h).is ∙ value_is (inverse line h).told (inverse line h).in_range in record {
+      good = good;
+      value_is = value_is;
+      in_range = λ line h. subst InRange (sym (tells line h)) (inverse line h).in_range;
+      line_is = λ line h. (inverse line h).is ∙ ap line_for (sym (tells line h));
+    }
+
+-- ---- counts, words, sides
+
+pub count_kind : (name : List ℕ) (low high : ℕ) → lacks 32 name ≡ true → IsLineKind (numbers_line_fault name (between low high ∷ [])) count_in (count_line name) (IsCountInRange low high)
+count_kind name low high h =
+    kind_from _ count_in (count_line name) (IsCountInRange low high)
+    (λ n in_range. good_count name low high n h in_range.low_end in_range.high_end)
+    (λ n in_range. count_in-count_line name n h)
+    (λ line good. let c = count_inverse name low high line good in record {
+      told = c.count;
+      is = c.is;
+      in_range = record { low_end = c.low_end; high_end = c.high_end };
+    })
+
+word_in-word_line : (w : ℕ × Word) → IsWordInRange w → word_in (word_line w) ≡ w
+word_in-word_line w h = rw (fields-word_line w, number_of-spelling (pos w.0), word_again w.1 h.letters) refl
+
+pub word_kind : (room : ℕ) → IsLineKind (word_row room) word_in word_line (FitsIn room)
+word_kind room =
+    kind_from (word_row room) word_in word_line (FitsIn room)
+    (λ w fits. good_word room w fits.in_range fits.fits)
+    (λ w fits. word_in-word_line w fits.in_range)
+    (λ line good. let w = word_inverse room line good in record {
+      told = w.word;
+      is = w.is;
+      in_range = record { in_range = w.in_range; fits = w.fits };
+    })
+
+side_in-side_line : (s : Side) → side_in (side_line s) ≡ s
+side_in-side_line s = rw (fields-side_line s, number_of-spelling (pos s.label), number_of-spelling (pos s.mate), number_of-spelling (pos s.next)) refl
+
+pub side_kind : IsLineKind side_row side_in side_line IsSideInRange
+side_kind =
+    kind_from side_row side_in side_line IsSideInRange good_side (λ s in_range. side_in-side_line s)
+    (λ line good. let s = side_inverse line good in record { told = s.side; is = s.is; in_range = s.in_range })
+
+-- ---- the scale, and the price of a word
+
+fields-number_line : (name : List ℕ) (z : ℤ) → lacks 32 name ≡ true → fields (numbers_line name (z ∷ [])) ≡ name ∷ spelling z ∷ []
+fields-number_line name z h = fields-spaced name (spelling z ∷ []) (h, (lacks-spelling 32 z (omega arith), tt))
+
+good_number : (name : List ℕ) (low high z : ℤ) → lacks 32 name ≡ true → low ≤ℤ z → z ≤ℤ high → numbers_line_fault name (from_to low high ∷ []) (numbers_line name (z ∷ [])) ≡ None
+good_number name low high z h small large =
+    named_is name (numbers_fault (from_to low high ∷ [])) (numbers_line name (z ∷ [])) _ (fields-number_line name z h)
+    ∙ rw (number_of-spelling z, in_range_test low high z small large) refl
+
+number_in-number_line : (name : List ℕ) (z : ℤ) → lacks 32 name ≡ true → number_in 1 (numbers_line name (z ∷ [])) ≡ z
+number_in-number_line name z h = rw (fields-number_line name z h, number_of-spelling z) refl
+
+number_from : (name : List ℕ) (low high : ℤ) (line : Line) (zs : List ℤ) → fields line ≡ name ∷ map spelling zs → InRanges (from_to low high ∷ []) zs
+    → IsLineOf (λ z. numbers_line name (z ∷ [])) (IsFromTo low high) line
+number_from name low high line [] e h = absurd h
+number_from name low high line (z ∷ []) e h = record { told = z; is = line_from_fields line _ e; in_range = in_range_from_test low high z h.0 }
+number_from name low high line (z ∷ y ∷ zs) e h = absurd h.1
+
+number_inverse : (name : List ℕ) (low high : ℤ) (line : Line) → numbers_line_fault name (from_to low high ∷ []) line ≡ None → IsLineOf (λ z. numbers_line name (z ∷ [])) (IsFromTo low high) line
+number_inverse name low high line h =
+    let named = named_inverse name (numbers_fault (from_to low high ∷ [])) line h in
+    let numbers = numbers_inverse (from_to low high ∷ []) named.rest named.good in
+    number_from name low high line numbers.numbers (named.fields ∙ ap (λ (fs : List Field). name ∷ fs) numbers.fields) numbers.in_range
+
+pub scale_kind : IsLineKind scale_row scale_in scale_line IsScaleInRange
+scale_kind =
+    kind_from scale_row scale_in scale_line IsScaleInRange
+    (λ d in_range. good_number (codes "scale") (pos 1) MAX_PRICE d refl in_range.low in_range.high)
+    (λ d in_range. number_in-number_line (codes "scale") d refl)
+    (λ line good. let d = number_inverse (codes "scale") (pos 1) MAX_PRICE line good in record {
+      told = d.told;
+      is = d.is;
+      in_range = record { low = d.in_range.low_end; high = d.in_range.high_end };
+    })
+
+pub base_kind : IsLineKind base_row base_in base_line IsPriceInRange
+base_kind =
+    kind_from base_row base_in base_line IsPriceInRange
+    (λ z in_range. good_number (codes "base") (neg_ℤ MAX_PRICE) MAX_PRICE z refl in_range.low in_range.high)
+    (λ z in_range. number_in-number_line (codes "base") z refl)
+    (λ line good. let z = number_inverse (codes "base") (neg_ℤ MAX_PRICE) MAX_PRICE line good in record {
+      told = z.told;
+      is = z.is;
+      in_range = record { low = z.in_range.low_end; high = z.in_range.high_end };
+    })
+
+-- ---- the price of a pair
+
+pub fields-pair_line : (p : ℕ × ℕ) (y : ℤ) → fields (pair_line p y) ≡ codes "pair" ∷ spelling (pos p.0) ∷ spelling (pos p.1) ∷ spelling y ∷ []
+fields-pair_line p y =
+    fields-spaced (codes "pair") (spelling (pos p.0) ∷ spelling (pos p.1) ∷ spelling y ∷ [])
+    (refl, (lacks-spelling 32 (pos p.0) (omega arith), (lacks-spelling 32 (pos p.1) (omega arith), (lacks-spelling 32 y (omega arith), tt))))
+
+good_pair : (p : ℕ × ℕ) (y : ℤ) → IsPriceInRange y → pair_row p (pair_line p y) ≡ None
+good_pair p y h =
+    named_is (codes "pair") (known_fault (pos p.0) (known_fault (pos p.1) (numbers_fault (of_size MAX_PRICE ∷ [])))) (pair_line p y) _ (fields-pair_line p y)
+    ∙ rw (same_bytes (spelling (pos p.0)), same_bytes (spelling (pos p.1)), number_of-spelling y, in_range_test (neg_ℤ MAX_PRICE) MAX_PRICE y h.low h.high) refl
+
+pair_price_in-pair_line : (p : ℕ × ℕ) (y : ℤ) → pair_price_in (pair_line p y) ≡ y
+pair_price_in-pair_line p y = rw (fields-pair_line p y, number_of-spelling y) refl
+
+pair_from : (p : ℕ × ℕ) (line : Line) (zs : List ℤ) → fields line ≡ codes "pair" ∷ spelling (pos p.0) ∷ spelling (pos p.1) ∷ map spelling zs → InRanges (of_size MAX_PRICE ∷ []) zs → IsLineOf (pair_line p) IsPriceInRange line
+pair_from p line [] e h = absurd h
+pair_from p line (y ∷ []) e h =
+    let ends = in_range_from_test (neg_ℤ MAX_PRICE) MAX_PRICE y h.0 in
+    record { told = y; is = line_from_fields line _ e; in_range = record { low = ends.low_end; high = ends.high_end } }
+pair_from p line (y ∷ x ∷ zs) e h = absurd h.1
+
+pair_inverse : (p : ℕ × ℕ) (line : Line) → pair_row p line ≡ None → IsLineOf (pair_line p) IsPriceInRange line
+pair_inverse p line h =
+    let prices : List Field → Option Kind = numbers_fault (of_size MAX_PRICE ∷ []) in
+    let named = named_inverse (codes "pair") (known_fault (pos p.0) (known_fault (pos p.1) prices)) line h in
+    let first = named_from (spelling (pos p.0)) (known_fault (pos p.1) prices) named.rest named.good in
+    let second = named_from (spelling (pos p.1)) prices first.rest first.good in
+    let numbers = numbers_inverse (of_size MAX_PRICE ∷ []) second.rest second.good in
+    pair_from p line numbers.numbers
+    (named.fields ∙ ap (λ (fs : List Field). codes "pair" ∷ fs) (first.fields ∙ ap (λ (fs : List Field). spelling (pos p.0) ∷ fs) (second.fields ∙ ap (λ (fs : List Field). spelling (pos p.1) ∷ fs) numbers.fields)))
+    numbers.in_range
+
+pub pair_kind : (p : ℕ × ℕ) → IsLineKind (pair_row p) pair_price_in (pair_line p) IsPriceInRange
+pair_kind p = kind_from (pair_row p) pair_price_in (pair_line p) IsPriceInRange (good_pair p) (λ y in_range. pair_price_in-pair_line p y) (pair_inverse p)
+
+-- ---- the row of a table
+
+pub fields-from_line : (s : ℕ) (es : List Entry) → fields (from_line s es) ≡ codes "from" ∷ spelling (pos s) ∷ map entry_field es
+fields-from_line s es = fields-spaced (codes "from") (spelling (pos s) ∷ map entry_field es) (refl, (lacks-spelling 32 (pos s) (omega arith), entry_fields_lack es))
+
+good_row : (count s : ℕ) (es : List Entry) → IsRowInRange count es → from_row count s (from_line s es) ≡ None
+good_row count s es h =
+    let len : eqb (length (map entry_field es)) count ≡ true = eq-eqb (length (map entry_field es)) count (length-map es entry_field ∙ h.count_is) in
+    named_is (codes "from") (known_fault (pos s) (entries_fault count)) (from_line s es) _ (fields-from_line s es)
+    ∙ rw (same_bytes (spelling (pos s)), len, fields_are_entries es, entries_in_range es h.entries_in_range) refl
+
+entries_in-from_line : (s : ℕ) (es : List Entry) → entries_in (from_line s es) ≡ es
+entries_in-from_line s es = rw (fields-from_line s es) (entries_of_fields es)
+
+-- so many fields that are entries, by their fault
+pub record AreRow (count : ℕ) (fs : List Field) : Type 0 where
+  pub entries : List Entry
+  pub are : fs ≡ map entry_field entries
+  pub in_range : IsRowInRange count entries
+
+pub row_from : (count : ℕ) (fs : List Field) → entries_fault count fs ≡ None → AreRow count fs
+row_from count fs h =
+    elim (cases_Bool (eqb (length fs) count && list_all is_entry fs)) [
+      | inl form ↦
+          elim (cases_Bool (list_all is_entry_in_range fs)) [
+            | inl range ↦
+                let both = and_parts (eqb (length fs) count) (list_all is_entry fs) form in
+                let row = entries_from_tests fs both.1 range in record {
+                  entries = row.told;
+                  are = row.are;
+                  in_range = record { count_is = sym (length-map row.told entry_field) ∙ sym (ap length row.are) ∙ eqb-true _ _ both.0; entries_in_range = row.in_range };
+                }
+            | inr outside ↦ absurd (none-some Range (sym (let fault : Some Range ≡ None = rw (form, outside) at h in fault)))
+          ]
+      | inr others ↦ absurd (none-some Form (sym (let fault : Some Form ≡ None = rw others at h in fault)))
+    ]
+
+row_inverse : (count s : ℕ) (line : Line) → from_row count s line ≡ None → IsLineOf (from_line s) (IsRowInRange count) line
+row_inverse count s line h =
+    let named = named_inverse (codes "from") (known_fault (pos s) (entries_fault count)) line h in
+    let known = named_from (spelling (pos s)) (entries_fault count) named.rest named.good in
+    let row = row_from count known.rest known.good in record {
+      told = row.entries;
+      is = line_from_fields line _ (named.fields ∙ ap (λ (fs : List Field). codes "from" ∷ fs) (known.fields ∙ ap (λ (fs : List Field). spelling (pos s) ∷ fs) row.are));
+      in_range = row.in_range;
+    }
+
+pub from_kind : (count s : ℕ) → IsLineKind (from_row count s) entries_in (from_line s) (IsRowInRange count)
+from_kind count s = kind_from (from_row count s) entries_in (from_line s) (IsRowInRange count) (good_row count s) (λ es in_range. entries_in-from_line s es) (row_inverse count s)
+
+-- ---- a value
+
+pub halves-quotient_text : (a b : ℤ) → halves (quotient_text a b) ≡ spelling a ∷ spelling b ∷ []
+halves-quotient_text a b =
+    slice_split_at (λ x. eqb x 47) (spelling a) 47 (spelling b) (lacking 47 (spelling a) (lacks-spelling_but 47 a (omega arith) (λ e. omega arith))) refl
+    ∙ ap (λ (rest : List Field). spelling a ∷ rest) (slice_split_none (λ x. eqb x 47) (spelling b) (lacking 47 (spelling b) (lacks-spelling_but 47 b (omega arith) (λ e. omega arith))))
+
+pub fields-value_line : (v : Quotient) → fields (value_line v) ≡ codes "value" ∷ quotient_text v.0 v.1 ∷ []
+fields-value_line v =
+    fields-spaced (codes "value") (quotient_text v.0 v.1 ∷ [])
+    (refl, (lacks-append 32 (spelling v.0) (47 ∷ spelling v.1) (lacks-spelling 32 v.0 (omega arith)) (lacks-spelling 32 v.1 (omega arith)), tt))
+
+good_value : (v : Quotient) → IsValueInRange v → value_row (value_line v) ≡ None
+good_value v h =
+    named_is (codes "value") value_fields_fault (value_line v) _ (fields-value_line v)
+    ∙ rw (halves-quotient_text v.0 v.1, number_of-spelling v.0, number_of-spelling v.1, in_range_test (pos 0) (pos MAX_VALUE) v.0 h.num_low h.num_high, in_range_test (pos 1) (pos MAX_VALUE) v.1 h.den_low h.den_high, coprime_test (unsigned_abs v.0) (unsigned_abs v.1) h.lowest) refl
+
+value_in-value_line : (v : Quotient) → value_in (value_line v) ≡ v
+value_in-value_line v = rw (fields-value_line v, halves-quotient_text v.0 v.1, number_of-spelling v.0, number_of-spelling v.1) refl
+
+-- a field is that of a fraction in range
+pub record IsFraction (f : Field) : Type 0 where
+  pub told : Quotient
+  pub is : f ≡ quotient_text told.0 told.1
+  pub in_range : IsValueInRange told
+
+quotient_test : (a b : ℤ) → quotient_fault (between 0 MAX_VALUE) (between 1 MAX_VALUE) (Some a) (Some b) ≡ None → IsValueInRange (a, b)
+quotient_test a b h =
+    elim (cases_Bool (between 0 MAX_VALUE a && between 1 MAX_VALUE b && are_coprime (unsigned_abs a) (unsigned_abs b))) [
+      | inl good ↦
+          let both = and_parts _ _ good in
+          let ends = and_parts _ _ both.0 in
+          let num = in_range_from_test (pos 0) (pos MAX_VALUE) a ends.0 in
+          let den = in_range_from_test (pos 1) (pos MAX_VALUE) b ends.1 in
+          let above : pos 0 <ℤ b = omega (arith, ints, den.low_end) in
+          record {
+            num_low = num.low_end;
+            num_high = num.high_end;
+            den_low = den.low_end;
+            den_high = den.high_end;
+            lowest = coprime_from_test (unsigned_abs a) (unsigned_abs b) (size_positive b above) both.1;
+          }
+      | inr bad ↦ absurd (none-some Range (sym (let fault : Some Range ≡ None = rw bad at h in fault)))
+    ]
+
+quotient_from : (f a b : Field) (p q : Option ℤ) → f ≡ a ++ (47 ∷ b) → number_of a ≡ p → number_of b ≡ q → quotient_fault (between 0 MAX_VALUE) (between 1 MAX_VALUE) p q ≡ None → IsFraction f
+quotient_from f a b None q e m n h = absurd (none-some Form (sym h))
+quotient_from f a b (Some x) None e m n h = absurd (none-some Form (sym h))
+quotient_from f a b (Some x) (Some y) e m n h = record {
+  told = (x, y);
+  is = e ∙ (λ i. number_of_is a x m i ++ (47 ∷ number_of_is b y n i));
+  in_range = quotient_test x y h;
+}
+
+fraction_from : (f : Field) (hs : List Field) → halves f ≡ hs → fraction_fault (between 0 MAX_VALUE) (between 1 MAX_VALUE) hs ≡ None → IsFraction f
+fraction_from f [] e h = absurd (none-some Form (sym h))
+fraction_from f (a ∷ []) e h = absurd (none-some Form (sym h))
+fraction_from f (a ∷ b ∷ []) e h = quotient_from f a b (number_of a) (number_of b) (sym (join_with_byte-slice_split 47 f) ∙ ap (join_with_byte 47) e) refl refl h
+fraction_from f (a ∷ b ∷ c ∷ more) e h = absurd (none-some Form (sym h))
+
+value_from : (line : Line) (fs : List Field) → fields line ≡ codes "value" ∷ fs → value_fields_fault fs ≡ None → IsLineOf value_line IsValueInRange line
+value_from line [] e h = absurd (none-some Form (sym h))
+value_from line (f ∷ []) e h =
+    let v = fraction_from f (halves f) refl h in
+    record { told = v.told; is = line_from_fields line _ (e ∙ ap (λ (g : Field). codes "value" ∷ g ∷ []) v.is); in_range = v.in_range }
+value_from line (f ∷ g ∷ fs) e h = absurd (none-some Form (sym h))
+
+value_inverse : (line : Line) → value_row line ≡ None → IsLineOf value_line IsValueInRange line
+value_inverse line h =
+    let named = named_inverse (codes "value") value_fields_fault line h in
+    value_from line named.rest named.fields named.good
+
+pub value_kind : IsLineKind value_row value_in value_line IsValueInRange
+value_kind = kind_from value_row value_in value_line IsValueInRange good_value (λ v in_range. value_in-value_line v) value_inverse

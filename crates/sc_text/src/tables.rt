@@ -1,0 +1,107 @@
+//! The line of a row of a distance table.
+
+ghost use Rattle.std.specs.Prelude.{◌≡◌, ◌++◌, ◌∷◌, Some, map, IfOk, IfErr, OnOk, OnErr};
+ghost use Rattle.std.specs.List.{flat_map};
+ghost use Rattle.sc_text.specs.LineFaults.{IsFault};
+ghost use Rattle.sc_text.specs.Lines.{ended};
+ghost use Rattle.sc_text.specs.Printing.{AppendsPart};
+ghost use Rattle.sc_text.specs.TableLines.{entry_field, entry_fault, entries_fault, from_row, IsEntryInRange, IsRowInRange};
+ghost use Rattle.sc_text.specs.TableLines as lines;
+
+use crate::fault::LineFault;
+use crate::fields::{Fields, number_of, within};
+use crate::limits::MAX_ENTRY;
+use sc_chain::Kind;
+use sc_whole::print_decimal;
+use std::alloc::{AllocError, Global};
+
+// The entry of a field: a number, or `-` for none.
+fn entry(field: &[u8]) -> Result<Option<i128>, Kind>
+    ensures ok { IfOk result (λ entry. (field.now ≡ entry_field entry) × IsEntryInRange entry) }
+    ensures err { IfErr result (λ kind. entry_fault field.now ≡ Some kind) }
+{
+    if field == b"-".as_slice() {
+        return Ok(None);
+    }
+    let number = within(number_of(field)?, -MAX_ENTRY, MAX_ENTRY)?;
+    Ok(Some(number))
+}
+
+// The entries of fields of which there have to be so many.
+fn entries(alloc: Global, mut fields: Fields, count: usize) -> Result<Vec<Option<i128>>, LineFault>
+    ensures ok { IfOk result (λ row. (fields.entry ≡ map entry_field row.items) × IsRowInRange count row.items) }
+    ensures err { IfErr result (IsFault (entries_fault count fields.entry)) }
+{
+    let mut row = Vec::new(alloc);
+    let mut all_in_range = true;
+    for _turn in 0..count {
+        let Some(field) = fields.next() else {
+            return Err(LineFault::Malformed(Kind::Form));
+        };
+        match entry(field) {
+            Ok(entry) => row.push(entry)?,
+            Err(Kind::Range) => all_in_range = false,
+            Err(kind) => return Err(LineFault::Malformed(kind)),
+        }
+    }
+    fields.end()?;
+    if all_in_range {
+        Ok(row)
+    } else {
+        Err(LineFault::Malformed(Kind::Range))
+    }
+}
+
+/// The entries of a line `from S H0 H1 ..`, where `start` has to stand as S and there have to be `count` of them.
+pub fn from_line(
+    alloc: Global,
+    line: &[u8],
+    start: u32,
+    count: usize,
+) -> Result<Vec<Option<i128>>, LineFault>
+    ensures ok { IfOk result (λ row. (line.now ≡ lines.from_line start row.items) × IsRowInRange count row.items) }
+    ensures err { IfErr result (IsFault (from_row count start line.now)) }
+{
+    let mut fields = Fields::of(line);
+    fields.name(b"from")?;
+    fields.known(start)?;
+    entries(alloc, fields, count)
+}
+
+// Appends a space and the field of an entry.
+fn print_entry(entry: Option<i128>, out: &mut Vec<u8>) -> Result<(), AllocError>
+    ensures ok { OnOk result (out.new.items ≡ out.old.items ++ (32 ∷ entry_field entry)) }
+    ensures err { OnErr result (AppendsPart out.old.items out.new.items (32 ∷ entry_field entry)) }
+{
+    out.push(b' ')?;
+    match entry {
+        Some(number) => print_decimal(number, out),
+        None => out.extend_from_slice(b"-"),
+    }
+}
+
+fn print_entries(entries: &[Option<i128>], out: &mut Vec<u8>) -> Result<(), AllocError>
+    ensures ok { OnOk result (out.new.items ≡ out.old.items ++ flat_map (λ e. 32 ∷ entry_field e) entries.now) }
+    ensures err { OnErr result (AppendsPart out.old.items out.new.items (flat_map (λ e. 32 ∷ entry_field e) entries.now)) }
+{
+    for entry in entries {
+        print_entry(*entry, out)?;
+    }
+    Ok(())
+}
+
+/// Appends the line of the row of a start.
+pub fn print_from_line(
+    start: u32,
+    entries: &[Option<i128>],
+    out: &mut Vec<u8>,
+) -> Result<(), AllocError>
+    ensures ok { OnOk result (out.new.items ≡ out.old.items ++ ended (lines.from_line start entries.now)) }
+    ensures err { OnErr result (AppendsPart out.old.items out.new.items (ended (lines.from_line start entries.now))) }
+{
+    out.extend_from_slice(b"from ")?;
+    print_decimal(i128::from(start), out)?;
+    print_entries(entries, out)?;
+    out.push(b'\n')?;
+    Ok(())
+}

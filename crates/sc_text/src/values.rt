@@ -1,0 +1,72 @@
+//! The line of a value, a fraction in lowest terms.
+
+ghost use Rattle.std.specs.Prelude.{◌≡◌, ◌≤◌, ◌++◌, false, pos, Some, IfOk, IfErr, OnOk, OnErr};
+ghost use Rattle.sc_chain.specs.declared.fault.Kind.TheVariants as kinds;
+ghost use Rattle.sc_fraction.specs.Frac.{numerator, denominator, frac_text};
+ghost use Rattle.sc_text.specs.declared.limits.TheConstants.{MAX_VALUE};
+ghost use Rattle.sc_text.specs.Faults.{between};
+ghost use Rattle.sc_text.specs.Lines.{ended};
+ghost use Rattle.sc_text.specs.Printing.{AppendsPart};
+ghost use Rattle.sc_text.specs.ValueLines.{are_coprime, halves, fraction_fault, quotient_of, IsValueInRange};
+ghost use Rattle.sc_text.specs.ValueLines as lines;
+
+use crate::fields::{Fields, cut, in_range, number_of};
+use crate::limits::MAX_VALUE;
+use crate::printing::{Field, print_line};
+use sc_chain::Kind;
+use sc_fraction::Frac;
+use std::alloc::AllocError;
+
+// num/den, where it is in lowest terms.
+fn lowest(num: u32, den: u32) -> Result<Frac, Kind>
+    requires { 1 ≤ den }
+    ensures ok { IfOk result (λ v. (numerator v ≡ pos num) × (denominator v ≡ pos den)) }
+    ensures err { IfErr result (λ kind. (kind ≡ kinds.Range) × (are_coprime num den ≡ false)) }
+{
+    let den = i128::from(den);
+    let Ok(value) = Frac::new(i128::from(num), den) else {
+        return Err(Kind::Range);
+    };
+    if value.den() == den {
+        Ok(value)
+    } else {
+        Err(Kind::Range)
+    }
+}
+
+// The fraction of a field `NUM/DEN`.
+fn fraction(field: &[u8]) -> Result<Frac, Kind>
+    ensures ok { IfOk result (λ v. (field.now ≡ frac_text v) × IsValueInRange (quotient_of v)) }
+    ensures err { IfErr result (λ kind. fraction_fault (between 0 MAX_VALUE) (between 1 MAX_VALUE) (halves field.now) ≡ Some kind) }
+{
+    let Some((num, den)) = cut(field, b'/') else {
+        return Err(Kind::Form);
+    };
+    let num = number_of(num)?;
+    let den = number_of(den)?;
+    let num = in_range(num, 0, MAX_VALUE)?;
+    let den = in_range(den, 1, MAX_VALUE)?;
+    lowest(num, den)
+}
+
+/// The fraction of a line `value NUM/DEN`, whose numbers are those of the line.
+pub fn value_line(line: &[u8]) -> Result<Frac, Kind>
+    ensures ok { IfOk result (λ v. (line.now ≡ lines.value_line (quotient_of v)) × IsValueInRange (quotient_of v)) }
+    ensures err { IfErr result (λ kind. lines.value_row line.now ≡ Some kind) }
+{
+    let mut fields = Fields::of(line);
+    fields.name(b"value")?;
+    let Some(field) = fields.next() else {
+        return Err(Kind::Form);
+    };
+    fields.end()?;
+    fraction(field)
+}
+
+/// Appends the line of a fraction.
+pub fn print_value_line(value: &Frac, out: &mut Vec<u8>) -> Result<(), AllocError>
+    ensures ok { OnOk result (out.new.items ≡ out.old.items ++ ended (lines.value_line (quotient_of value.now))) }
+    ensures err { OnErr result (AppendsPart out.old.items out.new.items (ended (lines.value_line (quotient_of value.now)))) }
+{
+    print_line(b"value", &[Field::Fraction(value)], out)
+}
