@@ -2,6 +2,8 @@
 use Rattle.std.proofs.Common.{◌≡◌, ℕ, ◌<◌, ◌≤◌, ◌⊎◌, inl, inr, List, [], Option, None, Some, IfSome, length, get_or, ℤ, pos, ◌<ℤ◌, subst, sym, arith}
 use Rattle.std.proofs.lemmas.Int.{ints}
 use Rattle.sc_theory.specs.Chains.{Chain, IsChain}
+use Rattle.sc_theory.proofs.Vouching.{covers}
+use Rattle.sc_theory.proofs.Leastness as leastness
 use Rattle.sc_text.specs.Surfaces.{IsChainInRange}
 use Rattle.sc_certificate.specs.Certificates.{Certificate}
 use Rattle.sc_prices.specs.Conditions.{AllHold}
@@ -14,7 +16,6 @@ use Rattle.sc_app.specs.declared.status.Status.TheVariants.{Done}
 use Rattle.sc_app.specs.Forms.{IsForm}
 use Rattle.sc_app.specs.Check.{CheckResponds, ShowsLeast}
 use Rattle.sc_app.specs.Answers.{AnswersTo, Delivers, MayAnswer, IsAsked, IsUnasked}
-use Rattle.sc_app.proofs.Borrowed.{conditions_least}
 use Rattle.sc_app.proofs.OneAnswer.{one_command}
 
 chain_in_range : (c : Chain) → IsChainInRange c → IsChain c
@@ -25,11 +26,12 @@ chain_in_range c h =
 shows : (input text : List ℕ) → CheckResponds input Done text → ShowsLeast input text
 shows input text r =
     let v : Certificate = r.0 in
+    let above : pos 0 <ℤ v.list.scale = omega (arith, ints, r.1.in_range.list.scale.low) in
     record {
       certificate = v;
       read = r.1;
       fatgraph = r.2.fatgraph;
-      least = conditions_least v (chain_in_range v.chain r.1.in_range.chain) (omega (arith, ints, r.1.in_range.list.scale.low)) r.2;
+      least = leastness.least v.chain v.list v.copies v.sides (chain_in_range v.chain r.1.in_range.chain) above (covers v.chain v.list v.tables above r.2.tables) r.2.fatgraph r.2.tight;
       value = r.2.value;
       line = r.3;
     }

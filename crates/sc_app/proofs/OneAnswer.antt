@@ -17,10 +17,11 @@ use Rattle.sc_fatgraph.specs.declared.flaws.FlawKind.{FlawKind}
 use Rattle.sc_fatgraph.specs.Flaws.{IsFirstFlaw}
 use Rattle.sc_fatgraph.proofs.FlawLaws.{fatgraph_has_none, first_flaw_alone}
 use Rattle.sc_certificate.specs.Certificates.{Certificate, certificate_text, certificate_plan}
+use Rattle.sc_certificate.proofs.TextLaws.{text_is_faultless, text_is_of_one}
 use Rattle.sc_prices.specs.declared.verdict.Condition.{Condition}
 use Rattle.sc_prices.specs.declared.verdict.Condition.TheVariants.{Flaw, Value, Table, NotTight}
 use Rattle.sc_prices.specs.Conditions.{AllHold, IsFirstFailing}
-use Rattle.sc_app.proofs.Borrowed.{faultless_certificate, one_certificate, one_failing, none_failing}
+use Rattle.sc_prices.proofs.Failing.{one_failing, none_failing}
 use Rattle.sc_app.specs.declared.command.Command.{Command}
 use Rattle.sc_app.specs.declared.command.Command.TheVariants.{Surface, Check, Scl}
 use Rattle.sc_app.specs.declared.status.Status.{Status}
@@ -39,10 +40,10 @@ no_fault : (plan : Plan) (input : List ℕ) (at : ℕ) (kind : Kind) → IsFault
 no_fault plan input at kind good bad = faultless_first plan input at kind good bad
 
 certificate_faultless : (input : List ℕ) (v : Certificate) → IsCertificateText input v → IsFaultless certificate_plan input
-certificate_faultless input v t = subst (IsFaultless certificate_plan) (sym t.text) (faultless_certificate v t.in_range)
+certificate_faultless input v t = subst (IsFaultless certificate_plan) (sym t.text) (text_is_faultless v t.in_range)
 
 same_certificate : (input : List ℕ) (v w : Certificate) → IsCertificateText input v → IsCertificateText input w → v ≡ w
-same_certificate input v w t u = one_certificate v w t.in_range u.in_range (sym t.text ∙ u.text)
+same_certificate input v w t u = text_is_of_one v w t.in_range u.in_range (sym t.text ∙ u.text)
 
 -- the text of a surface isn't headed as a certificate, and that of a certificate is
 surface_heading : (c : Chain) (n : ℕ) (g : Sides) → is_headed_as_certificate (surface_text c n g) ≡ false
