@@ -1,18 +1,21 @@
 -- Sums of prices, each so many times, keep within 128 bits.
-use Rattle.std.proofs.Common.{◌≡◌, ◌≢◌, ℕ, zero, suc, ◌+◌, ◌*◌, ◌^◌, ◌<◌, ◌≤◌, [], ◌∷◌, refl, take, length, get_or, ℤ, pos, neg_ℤ, ◌+ℤ◌, ◌*ℤ◌, ◌≤ℤ◌, FitsSigned, to_z, of_z, to_z-of_z, Some, add-one, arith, sym, ap, subst, ◌∙◌}
+use Rattle.std.proofs.Common.{◌≡◌, ◌≢◌, ◌↔◌, IsTrue, nat_eq, ℕ, zero, suc, ◌+◌, ◌*◌, ◌^◌, ◌<◌, ◌≤◌, [], ◌∷◌, refl, take, length, ℤ, pos, neg_ℤ, ◌+ℤ◌, ◌*ℤ◌, ◌≤ℤ◌, FitsSigned, to_z, of_z, to_z-of_z, Some, add-one, arith, sym, ap, subst, ◌∙◌}
 use Rattle.std.specs.Int.{w128}
+use borrow.Author.Tests.{eqb-true}
+use Rattle.std.proofs.lemmas.Bool.{eq-eqb}
 use Rattle.std.proofs.Math.Seq.{take-length}
 use Rattle.std.proofs.lemmas.Int.{ints}
 use Rattle.std.proofs.lemmas.List.Sums.{sum_by_more, sum_by-take-le}
-use Rattle.sc_algebra.proofs.Ints.{mul_neg, add_mul, pos-add, pos-mul, pos-le, le_trans, mul-le_left, mul-le_right, mul_assoc}
+use Rattle.sc_algebra.proofs.Ints.{mul_comm, mul_neg, pos-mul, pos-le, mul-le_left, mul-le_right, mul_assoc}
 use Rattle.sc_algebra.specs.Sums.{sum_below}
 use Rattle.sc_theory.specs.Words.{Word}
 use Rattle.sc_theory.specs.Chains.{Chain, IsChain, no_word, weight, word, weighted_length}
+use Rattle.sc_theory.proofs.FatgraphLaws.{length_is}
 use Rattle.sc_chain.specs.Faults.{IsSmallChain}
 use Rattle.sc_text.specs.declared.limits.TheConstants.{MAX_PRICE}
-use Rattle.sc_text.specs.PriceLines.{IsPriceInRange}
+use Rattle.sc_text.specs.PriceLines.{IsScaleInRange, IsPriceInRange}
 use Rattle.sc_text.specs.TableLines.{IsEntryInRange}
-use Rattle.sc_prices.specs.Sizes.{IsOfPrices}
+use Rattle.sc_prices.specs.Sizes.{AreVertices, IsOfPrices}
 
 pub no_prices : IsOfPrices 0 (pos 0)
 no_prices = record { low = omega (arith, ints); high = omega (arith, ints) }
@@ -79,3 +82,33 @@ entry_and_price a p entry price =
     let second : FitsSigned w128 p = prices_fit 2 p (omega arith) price in
     let both : FitsSigned w128 (a +ℤ p) = omega (arith, ints, entry.0, entry.1, price.low, price.high) in
     simp (to_z-of_z first, to_z-of_z second) (to_z-of_z both)
+
+-- ---- tightness
+
+pub scale_times_fits : (d f : ℤ) (v : ℕ) → IsScaleInRange d → f ≡ pos v → v < 2 ^ 32 → FitsSigned w128 (d *ℤ f)
+scale_times_fits d f v scale is few =
+    let price : IsPriceInRange d = record { low = omega (arith, ints, scale.low); high = scale.high } in
+    subst (FitsSigned w128) (mul_comm f d) (price_times_fits v f d is few price)
+
+prices_scaled : (n k : ℕ) (z : ℤ) → IsOfPrices k z → IsOfPrices (n * k) (pos n *ℤ z)
+prices_scaled n k z h =
+    let same : pos n *ℤ (pos k *ℤ MAX_PRICE) ≡ pos (n * k) *ℤ MAX_PRICE = sym (mul_assoc (pos n) (pos k) MAX_PRICE) ∙ ap (λ (x : ℤ). x *ℤ MAX_PRICE) (sym (pos-mul n k)) in
+    let low : (pos n *ℤ neg_ℤ (pos k *ℤ MAX_PRICE)) ≤ℤ (pos n *ℤ z) = mul-le_left n (neg_ℤ (pos k *ℤ MAX_PRICE)) z h.low in
+    let high : (pos n *ℤ z) ≤ℤ (pos n *ℤ (pos k *ℤ MAX_PRICE)) = mul-le_left n z (pos k *ℤ MAX_PRICE) h.high in
+    record {
+      low = subst (λ (x : ℤ). x ≤ℤ (pos n *ℤ z)) (mul_neg (pos n) (pos k *ℤ MAX_PRICE) ∙ ap neg_ℤ same) low;
+      high = subst (λ (x : ℤ). (pos n *ℤ z) ≤ℤ x) same high;
+    }
+
+pub copies_times_fits : (c : Chain) (n v : ℕ) (f z : ℤ) → AreVertices c n v → f ≡ pos n → IsOfPrices (weighted_length c) z → FitsSigned w128 (f *ℤ z)
+copies_times_fits c n v f z (g, surface, count) is small =
+    let sides : length g ≡ n * weighted_length c = length_is c n g surface.fatgraph in
+    subst (λ (x : ℤ). FitsSigned w128 (x *ℤ z)) (sym is)
+    (prices_fit (n * weighted_length c) (pos n *ℤ z) (omega (arith, surface.few_sides)) (prices_scaled n (weighted_length c) z small))
+
+-- the test of equality of two numbers of 128 bits
+pub same_held : (x y : ℤ) → FitsSigned w128 x → FitsSigned w128 y → IsTrue (nat_eq (of_z w128 x) (of_z w128 y)) ↔ (x ≡ y)
+same_held x y fx fy = (
+  λ h. sym (to_z-of_z fx) ∙ ap (to_z w128) (eqb-true (of_z w128 x) (of_z w128 y) h) ∙ to_z-of_z fy,
+  λ e. eq-eqb (of_z w128 x) (of_z w128 y) (ap (of_z w128) e),
+)

@@ -1,5 +1,5 @@
 -- Tables vouch exactly where they have no flaw, and one flaw is the first.
-use Rattle.std.proofs.Common.{◌≡◌, ◌≢◌, ◌↔◌, ℕ, zero, suc, ◌+◌, ◌<◌, ◌≤◌, ◌⊎◌, inl, inr, Option, Some, None, ℤ, pos, negsuc, ◌+ℤ◌, ◌<ℤ◌, ◌≤ℤ◌, arith, refl, sym, ap, subst, ◌∙◌}
+use Rattle.std.proofs.Common.{◌≡◌, ◌≢◌, ℕ, zero, suc, ◌+◌, ◌<◌, ◌≤◌, ◌⊎◌, inl, inr, Option, Some, None, ℤ, pos, negsuc, ◌+ℤ◌, ◌<ℤ◌, ◌≤ℤ◌, arith, refl, sym, ap, subst, ◌∙◌}
 use Rattle.std.proofs.lemmas.Bool.{cases_eq, cases_lt, cases_order}
 use Rattle.std.proofs.lemmas.Int.{ints}
 use borrow.Author.Differences.{up, down}
@@ -173,5 +173,5 @@ no_step_flaw c list tables s i j a p reached is none = λ f.
     let same : f.total ≡ a = some_same f.total a (sym f.reached ∙ sym reached) in
     none (subst (λ (z : ℤ). Undercuts list tables s j (a +ℤ z)) (sym is) (subst (λ (z : ℤ). Undercuts list tables s j (z +ℤ price c list i j)) same f.undercuts))
   where
-  some_same : (x y : ℤ) → Some x ≡ Some y → x ≡ y
-  some_same x y e = cc
+    some_same : (x y : ℤ) → Some x ≡ Some y → x ≡ y
+    some_same x y e = cc

@@ -1,10 +1,12 @@
 -- The conditions of a certificate in their order, and which is the first that fails.
-use Rattle.std.specs.Prelude.{◌≡◌, pos, ◌*◌}
+use Rattle.std.specs.Prelude.{◌≡◌, List, pos, ◌*◌}
 use Rattle.sc_theory.specs.Fatgraphs.{IsFatgraph, cost}
-use Rattle.sc_theory.specs.Prices.{Vouch, IsTight}
+use Rattle.sc_theory.specs.Prices.{Prices, Tables, Vouch, IsTight}
 use Rattle.sc_fraction.specs.declared.frac.Frac.{Frac}
 use Rattle.sc_fraction.specs.Frac.{numerator, denominator}
 use Rattle.sc_fraction.specs.Quotient.{SameQuotient}
+use Rattle.sc_chain.specs.declared.polygon.Pivot.{Pivot}
+use Rattle.sc_fatgraph.specs.Surfaces.{Surface, surface}
 use Rattle.sc_fatgraph.specs.Flaws.{IsFirstFlaw}
 use Rattle.sc_certificate.specs.Certificates.{Certificate}
 use Rattle.sc_prices.specs.Flaws.{IsFirstTableFlaw}
@@ -15,18 +17,22 @@ use Rattle.sc_prices.specs.declared.verdict.Condition.TheVariants.{Flaw, Value, 
 use Rattle.sc_prices.specs.declared.verdict.Verdict.{Verdict}
 use Rattle.sc_prices.specs.declared.verdict.Verdict.TheVariants.{Optimal, Rejected}
 
+-- what is stated of a surface by a value, a price list, tables and a journal
+abbrev pub stated : Surface → Frac → Prices → Tables → List Pivot → Certificate
+stated f value list tables journal =
+    record {
+      chain = f.chain;
+      value = (numerator value, denominator value);
+      copies = f.copies;
+      sides = f.sides;
+      list = list;
+      tables = tables;
+      journal = journal;
+    }
+
 -- what a certificate says
 abbrev pub certificate_of : CertificateParts → Certificate
-certificate_of s =
-    record {
-      chain = s.chain;
-      value = (numerator s.value, denominator s.value);
-      copies = s.n;
-      sides = s.sides;
-      list = s.list;
-      tables = s.tables;
-      journal = s.journal.items;
-    }
+certificate_of s = stated (surface s.chain s.n s.sides) s.value s.list s.tables s.journal.items
 
 -- the stated value is the cost over twice the copies
 abbrev pub HasItsValue : Certificate → Type 0

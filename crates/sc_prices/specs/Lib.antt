@@ -2,3 +2,4 @@ pub mod Flaws
 pub mod Rows
 pub mod Sizes
 pub mod Conditions
+pub mod Answers

@@ -5,12 +5,11 @@ ghost use Rattle.sc_theory.specs.Fatgraphs.{IsLeast, cost};
 ghost use Rattle.sc_fraction.specs.Frac.{IsQuotient};
 ghost use Rattle.sc_certificate.specs.Certificates.{IsCertificateInRange};
 
-use crate::tightness::tight;
+use crate::judging::verdict_on;
 use crate::verdict::{Condition, Verdict};
-use crate::vouching::vouch;
 use sc_certificate::{PriceList, Tables};
-use sc_chain::{Chain, Pairs, Pivot};
-use sc_fatgraph::{Fatgraph, Sides, SurfaceFault, fraction};
+use sc_chain::{Chain, Pivot};
+use sc_fatgraph::{Fatgraph, Sides, SurfaceFault};
 use sc_fraction::Frac;
 use std::alloc::{AllocError, Global};
 
@@ -56,24 +55,12 @@ impl Certificate {
             tables,
             journal: _,
         } = self;
-        let fatgraph = match Fatgraph::check(alloc, chain, n, sides) {
-            Ok(fatgraph) => fatgraph,
+        match Fatgraph::check(alloc, chain, n, sides) {
+            Ok(fatgraph) => verdict_on(alloc, &fatgraph, value, &list, &tables),
             Err(SurfaceFault::Flaw { kind, place }) => {
-                return Ok(Verdict::Rejected(Condition::Flaw { kind, place }));
+                Ok(Verdict::Rejected(Condition::Flaw { kind, place }))
             }
-            Err(SurfaceFault::Memory) => return Err(AllocError),
-        };
-        let counts = fatgraph.counts(alloc)?;
-        if fraction(&counts, n) != value {
-            return Ok(Verdict::Rejected(Condition::Value));
+            Err(SurfaceFault::Memory) => Err(AllocError),
         }
-        let pairs = Pairs::of(alloc, fatgraph.chain())?;
-        if let Err(flaw) = vouch(fatgraph.chain(), &pairs, &list, &tables) {
-            return Ok(Verdict::Rejected(Condition::Table(flaw)));
-        }
-        if !tight(&list, fatgraph.chain(), &counts, n) {
-            return Ok(Verdict::Rejected(Condition::NotTight));
-        }
-        Ok(Verdict::Optimal(value))
     }
 }

@@ -4,6 +4,7 @@
 
 mod certificate;
 mod flaws;
+mod judging;
 pub mod laws;
 mod prices;
 mod tightness;

@@ -3,7 +3,7 @@
 ghost use Rattle.std.specs.Prelude.{◌≡◌, ◌↔◌, ◌<◌, ℤ, length, IsTrue, Some, OnOk, IfErr};
 ghost use Rattle.sc_theory.specs.Chains.{positions};
 ghost use Rattle.sc_theory.specs.Prices.{pairs as inverse_pairs, Vouch};
-ghost use Rattle.sc_certificate.specs.Sizes.{FitsCounts, AreTablesOf};
+ghost use Rattle.sc_certificate.specs.Sizes.{FitsCounts};
 ghost use Rattle.sc_fatgraph.specs.Flaws.{IsLeastPlace};
 ghost use Rattle.sc_prices.specs.Flaws.{Undercuts, HasStepFlaw, IsFirstTableFlaw};
 ghost use Rattle.sc_prices.specs.Rows.{IsFirstInRow};
@@ -66,12 +66,13 @@ fn first_flaw_from(
     requires sizes { FitsCounts (length chain.now) (length (inverse_pairs chain.now)) list.now }
     ensures { IsFirstInRow chain.now list.now tables.now start result }
 {
+    let positions = chain.positions();
     if tables.entry(start, start) != Some(0) {
         return Some(TableFlaw::Start {
             start: start as u32,
         });
     }
-    for from in 0..chain.positions() {
+    for from in 0..positions {
         if let Some(to) = first_end(chain, pairs, list, tables, start, from) {
             return Some(TableFlaw::Step {
                 start: start as u32,
@@ -93,7 +94,6 @@ pub fn vouch(
 ) -> Result<(), TableFlaw>
     requires pairs { pairs.now ≡ inverse_pairs chain.now }
     requires sizes { FitsCounts (length chain.now) (length (inverse_pairs chain.now)) list.now }
-    requires tables { AreTablesOf (positions chain.now) tables.now }
     ensures ok { OnOk result (Vouch chain.now list.now tables.now) }
     ensures flaw { IfErr result (IsFirstTableFlaw chain.now list.now tables.now) }
 {

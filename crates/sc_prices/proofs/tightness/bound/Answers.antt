@@ -1,7 +1,7 @@
 use Rattle.std.proofs.Common.{◌*ℤ◌, ◌+ℤ◌, ℤ, pos, get_or, FitsSigned, to_z, to_z-of_z, rules}
 use Rattle.std.specs.Int.{w128}
 use Rattle.sc_theory.specs.Chains.{weight}
-use Rattle.sc_prices.proofs.Sizes.{total_more, total_fits, total_all, sum_more}
+use Rattle.sc_prices.proofs.Sizes.{total_more, total_fits, sum_more}
 use Rattle.sc_prices.proofs.tightness.bound.Goals as goal
 
 pub loop-w-preserved : goal.loop-w-preserved

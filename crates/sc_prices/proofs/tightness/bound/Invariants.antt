@@ -1,4 +1,4 @@
-use Rattle.std.proofs.Common.{◌≡◌, ℤ, pos, get_or, take, ◌*ℤ◌}
+use Rattle.std.proofs.Common.{◌≡◌, pos, get_or, take, ◌*ℤ◌}
 use Rattle.sc_algebra.specs.Sums.{sum_below}
 use Rattle.sc_theory.specs.Chains.{weight, weighted_length}
 use Rattle.sc_prices.specs.Sizes.{IsOfPrices}

@@ -1,4 +1,4 @@
-use Rattle.std.proofs.Common.{◌≡◌, ◌*◌, ◌*ℤ◌, ◌∙◌, length, ℕ, ℤ, ap, pos, sym, subst, FitsSigned, to_z-of_z, rules}
+use Rattle.std.proofs.Common.{◌≡◌, ◌*◌, ◌*ℤ◌, ◌∙◌, length, ℤ, ap, pos, sym, subst, FitsSigned, to_z-of_z, rules}
 use Rattle.std.specs.Int.{w128}
 use Rattle.sc_theory.specs.Chains.{weight, word}
 use Rattle.sc_prices.specs.Sizes.{IsOfPrices}

@@ -9,11 +9,10 @@ use Rattle.sc_prices.proofs.vouching.first_end.Goals.{then-is_step+else-undercut
 
 pub returns-then-undercuts : goal.returns-then-undercuts
 returns-then-undercuts c =
-    let total = entry_and_price c.in_ok-reached.reached c.step_price.result c.in_ok-reached.ensures.in_range c.step_price.ensures.small in
-    (
+    let total = entry_and_price c.in_ok-reached.reached c.step_price.result c.in_ok-reached.ensures.in_range c.step_price.ensures.small in (
       step_flaw c.args.chain.now c.args.list.now c.args.tables.now c.args.start c.args.from c.loop-to.to c.in_ok-reached.reached c.step_price.result
-      c.requires.start (c.if-is_step.ensures.0 refl) c.in_ok-reached.ensures.entry c.step_price.ensures.price
-      (subst (Undercuts c.args.list.now c.args.tables.now c.args.start c.loop-to.to) total (c.if-undercuts.ensures.0 refl)),
+          c.requires.start (c.if-is_step.ensures.0 refl) c.in_ok-reached.ensures.entry c.step_price.ensures.price
+          (subst (Undercuts c.args.list.now c.args.tables.now c.args.start c.loop-to.to) total (c.if-undercuts.ensures.0 refl)),
       c.loop-to.invariant,
     )
 
