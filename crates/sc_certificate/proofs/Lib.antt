@@ -3,3 +3,5 @@ pub mod FormatLaws
 pub mod PivotLaws
 pub mod CertificateLaws
 pub mod TextLaws
+pub mod DueLaws
+pub mod PartLaws

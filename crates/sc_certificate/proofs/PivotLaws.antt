@@ -1,26 +1,34 @@
 -- The lines of pivots without a fault are those of the pivots in range.
-use Rattle.std.proofs.Common.{◌≡◌, ℕ, zero, suc, ◌<◌, ◌≤◌, Bool, true, false, ◌&&◌, cond, List, [], ◌∷◌, map, drop, get_or, Option, Some, None, is_some, codes, ℤ, pos, negsuc, refl, sym, ap, subst, ◌∙◌, arith, inl, inr}
+use Rattle.std.proofs.Common.{◌≡◌, ℕ, zero, suc, ◌+◌, ◌<◌, ◌≤◌, Bool, true, false, ◌&&◌, cond, List, [], ◌∷◌, ◌++◌, map, length, drop, get_or, Option, Some, None, is_some, codes, ℤ, pos, negsuc, refl, sym, ap, subst, ◌∙◌, arith, inl, inr}
 use Rattle.std.specs.Prelude.{int_le, int_lt}
 use Rattle.std.specs.List.{list_all}
 use Rattle.std.specs.Option.{option_map_or}
 use Rattle.std.proofs.lemmas.Bool.{cases_Bool, and_parts, and_from, false≢true}
 use Rattle.std.proofs.lemmas.Bool.Decides.{nat_tests}
 use Rattle.std.proofs.lemmas.Int.{ints}
-use Rattle.std.proofs.lemmas.Option.{none-some}
+use Rattle.std.proofs.lemmas.Option.{none-some, same_Some}
+use Rattle.std.proofs.lemmas.List.{length-map, length-append, get_or_at}
 use Rattle.sc_whole.specs.Spelling.{spelling}
-use Rattle.sc_theory.specs.Chains.{Chain}
+use Rattle.sc_theory.specs.Chains.{Chain, positions}
+use Rattle.sc_theory.specs.Walks.{IsPolygon}
 use Rattle.sc_theory.specs.Columns.{rows}
 use Rattle.sc_chain.specs.declared.fault.Kind.{Kind}
 use Rattle.sc_chain.specs.declared.fault.Kind.TheVariants.{Form, Range}
 use Rattle.sc_chain.specs.declared.polygon.Pivot.{Pivot}
+use Rattle.sc_chain.specs.declared.limits.TheConstants.{MAX_POSITIONS}
 use Rattle.sc_chain.specs.Polygons.{is_polygon}
-use Rattle.sc_chain.proofs.PolygonLaws.{polygons_are_decided}
-use Rattle.sc_text.specs.Lines.{Line, Field, fields, spaced, number_of}
+use Rattle.sc_chain.proofs.PolygonLaws.{polygons_are_decided, walk_inside}
+use Rattle.sc_text.specs.declared.fault.LineFault.{LineFault}
+use Rattle.sc_text.specs.declared.fault.LineFault.TheVariants.{Malformed, Memory}
+use Rattle.sc_text.specs.LineFaults.{IsFault}
+use Rattle.sc_text.specs.Faults.{between}
+use Rattle.sc_text.specs.Lines.{Line, Field, fields, spaced, number_of, first_number, IsNarrowed, TellsNumber, TakesNumber}
 use Rattle.sc_text.specs.Formats.{IsLineKind}
-use Rattle.sc_text.proofs.LineLaws.{AllLack, fields-spaced, lacks-spelling, number_of-spelling, number_of_is, named_is, line_from_fields}
+use Rattle.sc_text.proofs.LineLaws.{AllLack, fields-spaced, lacks-spelling, number_of-spelling, number_of_is, number_of_from, named_is, taken_is, line_from_fields}
+use Rattle.sc_text.proofs.WordLaws.{between-natural}
 use Rattle.sc_text.proofs.Readable.{named_inverse}
 use Rattle.sc_text.proofs.KindLaws.{IsLineOf, kind_from}
-use Rattle.sc_certificate.specs.PivotLines.{pivot_line, pivot_row, pivot_in, pivot_fault, is_natural, is_below, are_naturals, naturals_of, IsPivotInRange}
+use Rattle.sc_certificate.specs.PivotLines.{pivot_line, pivot_row, pivot_in, pivot_fault, walk_fault, IsNoPosition, is_natural, is_below, are_naturals, naturals_of, IsPivotInRange}
 
 abbrev numbers : List ℕ → List Field
 numbers walk = map (λ i. spelling (pos i)) walk
@@ -122,3 +130,91 @@ pivot_inverse c line h =
 
 pub pivot_kind : (c : Chain) → IsLineKind (pivot_row c) pivot_in pivot_line (IsPivotInRange c)
 pivot_kind c = kind_from (pivot_row c) pivot_in pivot_line (IsPivotInRange c) (good_pivot c) (λ p in_range. pivot_in-pivot_line p) (pivot_inverse c)
+
+-- ---- fields that are no positions
+
+pub no_position : (f : Field) → number_of f ≡ None → IsNoPosition f
+no_position f none n few e = none-some (pos n) (sym none ∙ number_of_from f (pos n) e)
+
+pub far_position : (f : Field) (number : Option ℤ) → TellsNumber f number → ((z : ℤ) → IsNarrowed z number → between 0 MAX_POSITIONS z ≡ false) → IsNoPosition f
+far_position f number t far n few e =
+    let value : t.value ≡ pos n = same_Some t.value (pos n) (sym t.spells ∙ number_of_from f (pos n) e) in
+    let outside : between 0 MAX_POSITIONS (pos n) ≡ false = subst (λ (z : ℤ). between 0 MAX_POSITIONS z ≡ false) value (far t.value t.narrowed) in
+    false≢true (sym outside ∙ between-natural 0 MAX_POSITIONS n (omega arith) few)
+
+numbers_at : (walk : List ℕ) (k : ℕ) → k < length walk → get_or (numbers walk) k [] ≡ spelling (pos (get_or walk k 0))
+numbers_at [] k h = absurd (omega arith)
+numbers_at (i ∷ walk) zero h = refl
+numbers_at (i ∷ walk) (suc k) h = numbers_at walk k (omega arith)
+
+-- fields of which one is no position are no polygon
+pub bad_field : (c : Chain) (fs : List Field) (before : List ℕ) (f : Field) (after : List Field) → positions c ≤ MAX_POSITIONS → fs ≡ numbers before ++ f ∷ after → IsNoPosition f → walk_fault c fs ≡ Some Form
+bad_field c fs before f after few e bad =
+    elim (cases_Bool (are_naturals fs && is_polygon c (naturals_of fs))) [
+      | inl form ↦
+          let both = and_parts (are_naturals fs) (is_polygon c (naturals_of fs)) form in
+          let walks = natural_fields fs both.0 in
+          let told : naturals_of fs ≡ walks.naturals = ap naturals_of walks.are ∙ numbers_tell walks.naturals in
+          let polygon = (polygons_are_decided c walks.naturals).0 (subst (λ (w : List ℕ). is_polygon c w ≡ true) told both.1) in
+          let len : length walks.naturals ≡ length before + 1 + length after =
+          omega (arith, ap length e, ap length walks.are, length-map walks.naturals (λ (i : ℕ). spelling (pos i)), length-map before (λ (i : ℕ). spelling (pos i)), length-append (numbers before) (f ∷ after)) in
+          let inside = walk_inside c walks.naturals polygon.closed (length before) (omega arith) in
+          let here : f ≡ spelling (pos (get_or walks.naturals (length before) 0)) =
+          sym (get_or_at (numbers before) f after [] (length before) (length-map before (λ (i : ℕ). spelling (pos i)))) ∙ ap (λ (gs : List Field). get_or gs (length before) []) (sym e ∙ walks.are) ∙ numbers_at walks.naturals (length before) (omega arith) in
+          absurd (bad (get_or walks.naturals (length before) 0) (omega arith) here)
+      | inr others ↦ rw others refl
+    ]
+
+-- ---- the fault of the fields of a pivot
+
+pub row_missing : (c : Chain) (fs : List Field) → first_number fs ≡ None → pivot_fault c fs ≡ Some Form
+row_missing c [] h = refl
+row_missing c (f ∷ fs) h = rw h refl
+
+pub walk_bad : (c : Chain) (f : Field) (fs : List Field) (z : ℤ) (k : Kind) → number_of f ≡ Some z → walk_fault c fs ≡ Some k → pivot_fault c (f ∷ fs) ≡ Some k
+walk_bad c f fs z k e h =
+    elim (cases_Bool (are_naturals fs && is_polygon c (naturals_of fs))) [
+      | inl form ↦ absurd (none-some k (let fault : None ≡ Some k = rw form at h in fault))
+      | inr others ↦ rw (e, others) (let fault : Some Form ≡ Some k = rw others at h in fault)
+    ]
+
+pub row_far : (c : Chain) (f : Field) (fs : List Field) (z : ℤ) → number_of f ≡ Some z → walk_fault c fs ≡ None → is_below (rows c) z ≡ false → pivot_fault c (f ∷ fs) ≡ Some Range
+row_far c f fs z e h far =
+    elim (cases_Bool (are_naturals fs && is_polygon c (naturals_of fs))) [
+      | inl form ↦ rw (e, form, far) refl
+      | inr others ↦ absurd (none-some Form (sym (let fault : Some Form ≡ None = rw others at h in fault)))
+    ]
+
+-- fields of positions, which are a polygon or not
+pub polygon_fields : (c : Chain) (walk : List ℕ) → IsPolygon c walk → walk_fault c (numbers walk) ≡ None
+polygon_fields c walk h =
+    let polygon : is_polygon c walk ≡ true = (polygons_are_decided c walk).1 h in
+    rw (numbers_are walk, numbers_tell walk, polygon) refl
+
+pub other_fields : (c : Chain) (walk : List ℕ) → (IsPolygon c walk → ⊥) → walk_fault c (numbers walk) ≡ Some Form
+other_fields c walk h =
+    elim (cases_Bool (is_polygon c walk)) [
+      | inl polygon ↦ absurd (h ((polygons_are_decided c walk).0 polygon))
+      | inr other ↦ rw (numbers_are walk, numbers_tell walk, other) refl
+    ]
+
+-- ---- the same of a line
+
+module _ (c : Chain) (line : Line) (fs : List Field) (named : fields line ≡ codes "pivot" ∷ fs) where
+  pub line_row_missing : first_number fs ≡ None → pivot_row c line ≡ Some Form
+  line_row_missing h = named_is (codes "pivot") (pivot_fault c) line fs named ∙ row_missing c fs h
+
+  pub line_walk_bad : (rest : List Field) (number : Option ℤ) (e : LineFault) → TakesNumber fs rest number → IsFault (walk_fault c rest) e → IsFault (pivot_row c line) e
+  line_walk_bad rest number (Malformed k) t h = named_is (codes "pivot") (pivot_fault c) line fs named ∙ ap (pivot_fault c) t.taken ∙ walk_bad c t.field rest t.value k t.spells h
+  line_walk_bad rest number Memory t h = tt
+
+  pub line_no_polygon : (rest : List Field) (number : Option ℤ) (walk : List ℕ) → TakesNumber fs rest number → rest ≡ numbers walk → (IsPolygon c walk → ⊥) → pivot_row c line ≡ Some Form
+  line_no_polygon rest number walk t e h = line_walk_bad rest number (Malformed Form) t (ap (walk_fault c) e ∙ other_fields c walk h)
+
+  pub line_row_far : (rest : List Field) (number : Option ℤ) (walk : List ℕ) → TakesNumber fs rest number → rest ≡ numbers walk → IsPolygon c walk → ((z : ℤ) → IsNarrowed z number → is_below (rows c) z ≡ false) → pivot_row c line ≡ Some Range
+  line_row_far rest number walk t e polygon far =
+      named_is (codes "pivot") (pivot_fault c) line fs named ∙ ap (pivot_fault c) t.taken ∙ row_far c t.field rest t.value t.spells (ap (walk_fault c) e ∙ polygon_fields c walk polygon) (far t.value t.narrowed)
+
+  pub line_of_pivot : (rest : List Field) (number : Option ℤ) (row : ℕ) (walk : List ℕ) → TakesNumber fs rest number → number ≡ Some (pos row) → rest ≡ numbers walk → line ≡ pivot_line (record { row = row; polygon = walk })
+  line_of_pivot rest number row walk t is e =
+      line_from_fields line _ (named ∙ ap (λ (gs : List Field). codes "pivot" ∷ gs) (taken_is fs rest number (pos row) t is ∙ ap (λ (gs : List Field). spelling (pos row) ∷ gs) e))

@@ -1,9 +1,13 @@
 //! The text of a certificate: a surface with a price list, the tables that vouch for the list, and the journal of a solver.
 #![tactic(auto)]
 
+mod journal;
 mod laws;
+mod pivots;
 mod price_list;
+mod sides;
 mod tables;
+mod words;
 
 pub use laws::{
     certificate_text_is_faultless, certificate_text_is_of_one_certificate,
