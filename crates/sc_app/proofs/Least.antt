@@ -1,12 +1,11 @@
 -- A certificate that `check` is done with shows that its surface is least.
-use Rattle.std.proofs.Common.{◌≡◌, ℕ, ◌<◌, ◌≤◌, ◌⊎◌, inl, inr, List, [], Option, None, Some, IfSome, length, get_or, ℤ, pos, ◌<ℤ◌, subst, sym, arith}
+use Rattle.std.proofs.Common.{◌≡◌, ℕ, ◌⊎◌, inl, inr, List, Option, None, Some, IfSome, pos, ◌<ℤ◌, subst, arith}
 use Rattle.std.proofs.lemmas.Int.{ints}
 use Rattle.sc_theory.specs.Chains.{Chain, IsChain}
 use Rattle.sc_theory.proofs.Vouching.{covers}
 use Rattle.sc_theory.proofs.Leastness as leastness
 use Rattle.sc_text.specs.Surfaces.{IsChainInRange}
 use Rattle.sc_certificate.specs.Certificates.{Certificate}
-use Rattle.sc_prices.specs.Conditions.{AllHold}
 use Rattle.sc_fatgraph.proofs.ReadChains.{accepted}
 use Rattle.sc_outside.specs.Told.{Took}
 use Rattle.sc_app.specs.declared.command.Command.{Command}

@@ -1,5 +1,5 @@
 -- An input has one answer.
-use Rattle.std.proofs.Common.{◌≡◌, ℕ, ◌<◌, ◌≤◌, ◌⊎◌, inl, inr, List, [], ◌∷◌, length, get_or, ℤ, Bool, true, false, IsSome, is_some, None, Some, IfSome, Option, refl, ap, ap₂, ◌∙◌, subst, sym, arith}
+use Rattle.std.proofs.Common.{◌≡◌, ℕ, ◌⊎◌, inl, inr, List, [], length, get_or, ℤ, true, false, IsSome, is_some, None, Some, IfSome, Option, refl, ap, ap₂, ◌∙◌, subst, sym, arith}
 use Rattle.std.proofs.lemmas.Bool.{cases_lt, cond-true, cond-false, false≢true}
 use Rattle.sc_theory.specs.Chains.{Chain, IsBalanced}
 use Rattle.sc_theory.specs.Fatgraphs.{Sides, IsFatgraph}
@@ -31,8 +31,7 @@ use Rattle.sc_app.specs.Forms.{IsForm}
 use Rattle.sc_app.specs.Surface.{SurfaceResponds, IsTextOf, Says, is_headed_as_certificate, plan_for}
 use Rattle.sc_app.specs.Check.{CheckResponds, IsCertificateText}
 use Rattle.sc_app.specs.Scl.{SclResponds}
-use Rattle.sc_outside.specs.Told.{Took}
-use Rattle.sc_app.specs.Answers.{limit_of, Responds, AnswersTo, Answers, Delivers, MayAnswer, IsAsked, IsUnasked, IsExcused}
+use Rattle.sc_app.specs.Answers.{Responds, AnswersTo, Answers, Delivers, MayAnswer, IsAsked, IsUnasked, IsExcused}
 
 -- ---- texts
 

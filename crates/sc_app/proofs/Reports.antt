@@ -1,5 +1,5 @@
 -- The text of a surface's report, and what `surface` and `scl` answer.
-use Rattle.std.proofs.Common.{◌≡◌, ℕ, ◌*◌, List, [], ◌∷◌, ◌++◌, codes, ℤ, pos, ◌-ℤ◌, ap₂, ◌∙◌, subst, refl}
+use Rattle.std.proofs.Common.{◌≡◌, ℕ, ◌*◌, List, [], ◌++◌, codes, ℤ, pos, ◌-ℤ◌, ap₂, ◌∙◌, subst, refl}
 use Rattle.sc_whole.specs.Spelling.{spelling}
 use Rattle.sc_theory.specs.Chains.{Chain}
 use Rattle.sc_theory.specs.Fatgraphs.{Sides, IsFatgraph, vertices, edges, cost}

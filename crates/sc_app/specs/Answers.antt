@@ -9,7 +9,7 @@ use Rattle.sc_app.specs.declared.status.What.TheVariants.{Bytes, Words, Position
 use Rattle.sc_app.specs.declared.limits.TheConstants.{MAX_TEXT_BYTES, MAX_CHAIN_BYTES}
 use Rattle.sc_app.specs.Forms.{IsForm}
 use Rattle.sc_app.specs.Surface.{SurfaceResponds}
-use Rattle.sc_app.specs.Check.{CheckResponds, optimal}
+use Rattle.sc_app.specs.Check.{CheckResponds}
 use Rattle.sc_app.specs.Scl.{SclResponds}
 
 -- the most bytes that a command reads

@@ -59,7 +59,10 @@ fn read_said(alloc: Global, input: &[u8]) -> Result<SurfaceText, TextFault>
         return read_surface(alloc, input);
     }
     let Certificate {
-        chain, n, sides, ..
+        chain,
+        n,
+        sides,
+        ..
     } = Certificate::read(alloc, input)?;
     Ok(SurfaceText { chain, n, sides })
 }
