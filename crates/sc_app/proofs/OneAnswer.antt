@@ -1,6 +1,6 @@
 -- An input has one answer.
-use Rattle.std.proofs.Common.{◌≡◌, ℕ, ◌⊎◌, inl, inr, List, [], length, get_or, ℤ, true, false, IsSome, is_some, None, Some, IfSome, Option, refl, ap, ap₂, ◌∙◌, subst, sym, arith}
-use Rattle.std.proofs.lemmas.Bool.{cases_lt, cond-true, cond-false, false≢true}
+use Rattle.std.proofs.Common.{◌≡◌, ℕ, ◌⊎◌, inl, inr, List, [], length, get_or, ℤ, IsSome, is_some, None, Some, IfSome, Option, refl, ap, ap₂, ◌∙◌, subst, sym, arith}
+use Rattle.std.proofs.lemmas.Bool.{cases_lt, false≢true}
 use Rattle.sc_theory.specs.Chains.{Chain, IsBalanced}
 use Rattle.sc_theory.specs.Fatgraphs.{Sides, IsFatgraph}
 use Rattle.sc_chain.specs.declared.fault.Kind.{Kind}
@@ -8,16 +8,13 @@ use Rattle.sc_chain.specs.declared.lines.RawLine.{RawLine}
 use Rattle.sc_chain.specs.ChainText.{IsChainText, IsFirstMalformed, line_case, line_at, line_kind}
 use Rattle.sc_chain.specs.Balance.{IsFirstUnbalanced}
 use Rattle.sc_reduce.specs.Lines.{chain_of, IsWithin, HasManyWords, HasManyPositions}
-use Rattle.sc_text.specs.Faults.{Plan, IsFaultless, IsFirstFault}
-use Rattle.sc_text.specs.Surfaces.{surface_text, surface_table}
+use Rattle.sc_text.specs.Faults.{IsFirstFault}
 use Rattle.sc_text.proofs.FaultLaws.{first_fault-unique, faultless_first}
-use Rattle.sc_text.proofs.Faultless.{faultless_text}
-use Rattle.sc_text.proofs.OneText.{one_text, SameSurface}
+use Rattle.sc_text.proofs.OneText.{SameSurface}
 use Rattle.sc_fatgraph.specs.declared.flaws.FlawKind.{FlawKind}
 use Rattle.sc_fatgraph.specs.Flaws.{IsFirstFlaw}
 use Rattle.sc_fatgraph.proofs.FlawLaws.{fatgraph_has_none, first_flaw_alone}
-use Rattle.sc_certificate.specs.Certificates.{Certificate, certificate_text, certificate_plan}
-use Rattle.sc_certificate.proofs.TextLaws.{text_is_faultless, text_is_of_one}
+use Rattle.sc_certificate.specs.Certificates.{Certificate, certificate_plan}
 use Rattle.sc_prices.specs.declared.verdict.Condition.{Condition}
 use Rattle.sc_prices.specs.declared.verdict.Condition.TheVariants.{Flaw, Value, Table, NotTight}
 use Rattle.sc_prices.specs.Conditions.{AllHold, IsFirstFailing}
@@ -28,65 +25,15 @@ use Rattle.sc_app.specs.declared.status.Status.{Status}
 use Rattle.sc_app.specs.declared.status.Status.TheVariants.{Done, Usage, Malformed, Large, ReadFault, WriteFault, Memory, Rejected, Unbuilt}
 use Rattle.sc_app.specs.declared.status.What.TheVariants.{Bytes, Words, Positions}
 use Rattle.sc_app.specs.Forms.{IsForm}
-use Rattle.sc_app.specs.Surface.{SurfaceResponds, IsTextOf, Says, is_headed_as_certificate, plan_for}
+use Rattle.sc_app.specs.Surface.{SurfaceResponds, Says, plan_for}
 use Rattle.sc_app.specs.Check.{CheckResponds, IsCertificateText}
 use Rattle.sc_app.specs.Scl.{SclResponds}
+use Rattle.sc_outside.specs.Told.{Took}
+use Rattle.sc_app.proofs.Inputs.{certificate_faultless, same_certificate, says_no_fault, same_surface}
+use Rattle.sc_app.proofs.OneText.{one_text}
 use Rattle.sc_app.specs.Answers.{Responds, AnswersTo, Answers, Delivers, MayAnswer, IsAsked, IsUnasked, IsExcused}
 
--- ---- texts
-
-no_fault : (plan : Plan) (input : List ℕ) (at : ℕ) (kind : Kind) → IsFaultless plan input → IsFirstFault plan input at kind → ⊥
-no_fault plan input at kind good bad = faultless_first plan input at kind good bad
-
-certificate_faultless : (input : List ℕ) (v : Certificate) → IsCertificateText input v → IsFaultless certificate_plan input
-certificate_faultless input v t = subst (IsFaultless certificate_plan) (sym t.text) (text_is_faultless v t.in_range)
-
-same_certificate : (input : List ℕ) (v w : Certificate) → IsCertificateText input v → IsCertificateText input w → v ≡ w
-same_certificate input v w t u = text_is_of_one v w t.in_range u.in_range (sym t.text ∙ u.text)
-
--- the text of a surface isn't headed as a certificate, and that of a certificate is
-surface_heading : (c : Chain) (n : ℕ) (g : Sides) → is_headed_as_certificate (surface_text c n g) ≡ false
-unfolding is_headed_as_certificate
-surface_heading c n g = refl
-
-certificate_heading : (v : Certificate) → is_headed_as_certificate (certificate_text v) ≡ true
-unfolding is_headed_as_certificate
-certificate_heading v = refl
-
-plan_of_surface : (input : List ℕ) (c : Chain) (n : ℕ) (g : Sides) → IsTextOf input c n g → plan_for input ≡ surface_table
-plan_of_surface input c n g t = cond-false (is_headed_as_certificate input) certificate_plan surface_table (ap is_headed_as_certificate t.text ∙ surface_heading c n g)
-
-plan_of_certificate : (input : List ℕ) (v : Certificate) → IsCertificateText input v → plan_for input ≡ certificate_plan
-plan_of_certificate input v t = cond-true (is_headed_as_certificate input) certificate_plan surface_table (ap is_headed_as_certificate t.text ∙ certificate_heading v)
-
 -- ---- surfaces
-
-says_faultless : (input : List ℕ) (c : Chain) (n : ℕ) (g : Sides) → Says input c n g → IsFaultless (plan_for input) input
-says_faultless input c n g (inl t) =
-    subst (λ (plan : Plan). IsFaultless plan input) (sym (plan_of_surface input c n g t))
-    (subst (IsFaultless surface_table) (sym t.text) (faultless_text c n g t.in_range))
-says_faultless input c n g (inr t) =
-    subst (λ (plan : Plan). IsFaultless plan input) (sym (plan_of_certificate input t.certificate t.text)) (certificate_faultless input t.certificate t.text)
-
-says_no_fault : (input : List ℕ) (c : Chain) (n : ℕ) (g : Sides) (at : ℕ) (kind : Kind) → Says input c n g → IsFirstFault (plan_for input) input at kind → ⊥
-says_no_fault input c n g at kind t f = no_fault (plan_for input) input at kind (says_faultless input c n g t) f
-
--- no text is that of a surface and that of a certificate
-two_headings : (input : List ℕ) (c : Chain) (n : ℕ) (g : Sides) (v : Certificate) → IsTextOf input c n g → IsCertificateText input v → ⊥
-two_headings input c n g v t u =
-    false≢true (sym (ap is_headed_as_certificate t.text ∙ surface_heading c n g) ∙ ap is_headed_as_certificate u.text ∙ certificate_heading v)
-
-same_surface : (input : List ℕ) (c : Chain) (n : ℕ) (g : Sides) (d : Chain) (m : ℕ) (h : Sides) → Says input c n g → Says input d m h → SameSurface c n g d m h
-same_surface input c n g d m h (inl t) (inl u) = one_text c n g d m h t.in_range u.in_range (sym t.text ∙ u.text)
-same_surface input c n g d m h (inl t) (inr u) = absurd (two_headings input c n g u.certificate t u.text)
-same_surface input c n g d m h (inr t) (inl u) = absurd (two_headings input d m h t.certificate u t.text)
-same_surface input c n g d m h (inr t) (inr u) =
-    let same : t.certificate ≡ u.certificate = same_certificate input t.certificate u.certificate t.text u.text in
-    record {
-      words = sym t.chain ∙ ap (λ (v : Certificate). v.chain) same ∙ u.chain;
-      copies = sym t.copies ∙ ap (λ (v : Certificate). v.copies) same ∙ u.copies;
-      sides = sym t.sides ∙ ap (λ (v : Certificate). v.sides) same ∙ u.sides;
-    }
 
 flaw_along : (c : Chain) (n : ℕ) (g : Sides) (d : Chain) (m : ℕ) (h : Sides) (kind : FlawKind) (place : ℕ) → SameSurface c n g d m h
     → IsFirstFlaw c n g kind place → IsFirstFlaw d m h kind place
@@ -162,14 +109,14 @@ failing_along input v w condition t u f = subst (λ (x : Certificate). IsFirstFa
 one_check_status : (input : List ℕ) (s s' : Status) → CheckCause input s → CheckCause input s' → s ≡ s'
 one_check_status input s s' (inl a) (inl b) =
     let same = first_fault-unique certificate_plan input a.0 b.0 a.1 b.1 a.3 b.3 in a.2 ∙ ap₂ Malformed same.0 same.1 ∙ sym b.2
-one_check_status input s s' (inl a) (inr (inl b)) = absurd (no_fault certificate_plan input a.0 a.1 (certificate_faultless input b.1 b.3) a.3)
-one_check_status input s s' (inl a) (inr (inr b)) = absurd (no_fault certificate_plan input a.0 a.1 (certificate_faultless input b.0 b.2) a.3)
-one_check_status input s s' (inr (inl a)) (inl b) = absurd (no_fault certificate_plan input b.0 b.1 (certificate_faultless input a.1 a.3) b.3)
+one_check_status input s s' (inl a) (inr (inl b)) = absurd (faultless_first certificate_plan input a.0 a.1 (certificate_faultless input b.1 b.3) a.3)
+one_check_status input s s' (inl a) (inr (inr b)) = absurd (faultless_first certificate_plan input a.0 a.1 (certificate_faultless input b.0 b.2) a.3)
+one_check_status input s s' (inr (inl a)) (inl b) = absurd (faultless_first certificate_plan input b.0 b.1 (certificate_faultless input a.1 a.3) b.3)
 one_check_status input s s' (inr (inl a)) (inr (inl b)) =
     a.2 ∙ ap Rejected (one_failing b.1 a.0 b.0 (failing_along input a.1 b.1 a.0 a.3 b.3 a.4) b.4) ∙ sym b.2
 one_check_status input s s' (inr (inl a)) (inr (inr b)) =
     absurd (none_failing b.0 a.0 (failing_along input a.1 b.0 a.0 a.3 b.2 a.4) b.3)
-one_check_status input s s' (inr (inr a)) (inl b) = absurd (no_fault certificate_plan input b.0 b.1 (certificate_faultless input a.0 a.2) b.3)
+one_check_status input s s' (inr (inr a)) (inl b) = absurd (faultless_first certificate_plan input b.0 b.1 (certificate_faultless input a.0 a.2) b.3)
 one_check_status input s s' (inr (inr a)) (inr (inl b)) =
     absurd (none_failing a.0 b.0 (failing_along input b.1 a.0 b.0 b.3 a.2 b.4) a.3)
 one_check_status input s s' (inr (inr a)) (inr (inr b)) = a.1 ∙ sym b.1
@@ -272,14 +219,27 @@ pub one_answer : (words : List (List ℕ)) (input text text' : List ℕ) (s s' :
 one_answer words input text text' s s' a b =
     one_of_command b.0 input text text' s s' (subst (λ (c : Command). AnswersTo c input s text) (one_command words a.0 b.0 a.1 b.1) a.2) b.2
 
+pub one_text_answer : (words : List (List ℕ)) (input text text' : List ℕ) (s s' : Status) → Answers words input s text → Answers words input s' text' → text ≡ text'
+one_text_answer words input text text' s s' a b =
+    let same : AnswersTo b.0 input s text = subst (λ (c : Command). AnswersTo c input s text) (one_command words a.0 b.0 a.1 b.1) a.2 in
+    one_text b.0 input text text' s' (subst (λ (t : Status). AnswersTo b.0 input t text) (one_of_command b.0 input text text' s s' same b.2) same) b.2
+
 -- ---- so a call answers that, unless something failed
 
+-- the answer came, and its text was taken
+abbrev Comes : Status → Option (List ℕ) → Option (List ℕ) → Status → List ℕ → Type 0
+Comes s old new status text = (s ≡ status) × Took old new text
+
 one_delivered : (words : List (List ℕ)) (input : List ℕ) (c : Command) (old new : Option (List ℕ)) (s : Status) → IsForm c words → Delivers c (Some input) old new s
-    → (status : Status) (text : List ℕ) → Answers words input status text → (s ≡ status) ⊎ IsExcused s
-one_delivered words input c old new s f d status text a = inl (one_answer words input d.0 text s status (c, f, d.1) a)
+    → (status : Status) (text : List ℕ) → Answers words input status text → Comes s old new status text ⊎ IsExcused s
+one_delivered words input c old new s f d status text a =
+    inl (
+      one_answer words input d.0 text s status (c, f, d.1) a,
+      subst (Took old new) (one_text_answer words input d.0 text s status (c, f, d.1) a) d.2,
+    )
 
 excused : (words : List (List ℕ)) (input : List ℕ) (c : Command) (ReadRose WriteRose : Type 0) (old new : Option (List ℕ)) (s : Status) → IsForm c words
-    → MayAnswer c (Some input) ReadRose WriteRose old new s → (status : Status) (text : List ℕ) → Answers words input status text → (s ≡ status) ⊎ IsExcused s
+    → MayAnswer c (Some input) ReadRose WriteRose old new s → (status : Status) (text : List ℕ) → Answers words input status text → Comes s old new status text ⊎ IsExcused s
 excused words input c R W old new Done f m = one_delivered words input c old new Done f m
 excused words input c R W old new (Malformed at kind) f m = one_delivered words input c old new (Malformed at kind) f m.0
 excused words input c R W old new (Large what) f m = one_delivered words input c old new (Large what) f m.0
@@ -292,7 +252,7 @@ excused words input c R W old new Memory f m = λ status text a. inr tt
 
 pub complete : (words : List (List ℕ)) (left left' : Option (List ℕ)) (faults faults' : ℕ) (ReadRose WriteRose : Type 0) (old new : Option (List ℕ)) (s : Status)
     → IsUnasked words left left' faults faults' old new s ⊎ IsAsked words left left' ReadRose WriteRose old new s
-    → IfSome left (λ input. (status : Status) (text : List ℕ) → Answers words input status text → (s ≡ status) ⊎ IsExcused s)
+    → IfSome left (λ input. (status : Status) (text : List ℕ) → Answers words input status text → Comes s old new status text ⊎ IsExcused s)
 complete words None left' n n' R W old new s h = tt
 complete words (Some input) left' n n' R W old new s (inl h) = λ status text a. absurd (h.none a.0 a.1)
 complete words (Some input) left' n n' R W old new s (inr h) = excused words input h.0 R W old new s h.1 h.2

@@ -124,7 +124,8 @@ pub fn run<S: Source, O: Sink, E: Sink>(
         × Answers (bytes_of words.now.items) input result text × Took (O.taken out.old) (O.taken out.new) text) }
     // The answer to the input is what comes, unless a stream fails or memory runs out. (There is one: `an_input_has_one_answer`.)
     ensures complete { IfSome (S.left source.old) (λ input. (status : AnyStatus) (text : List ℕ)
-        → Answers (bytes_of words.now.items) input status text → (result ≡ status) ⊎ IsExcused result) }
+        → Answers (bytes_of words.now.items) input status text
+        → ((result ≡ status) × Took (O.taken out.old) (O.taken out.new) text) ⊎ IsExcused result) }
     // Where `check` is done, `out` took the value of a certificate whose surface is least over its chain.
     ensures least { result ≡ Status.Done → IsForm commands.Check (bytes_of words.now.items) → IfSome (S.left source.old)
         (λ input. (text : List ℕ) × ShowsLeast input text × Took (O.taken out.old) (O.taken out.new) text) }
@@ -144,8 +145,10 @@ pub fn run<S: Source, O: Sink, E: Sink>(
     status
 }
 
-/// No input has two answers: the same words and the same input give one status.
+/// No input has two answers: the same words and the same input give one status and one text.
 pub fn an_input_has_one_answer()
-    ensures { (words : List (List ℕ)) (input text other : List ℕ) (status elsewise : AnyStatus) → Answers words input status text
+    ensures status { (words : List (List ℕ)) (input text other : List ℕ) (status elsewise : AnyStatus) → Answers words input status text
         → Answers words input elsewise other → status ≡ elsewise }
+    ensures text { (words : List (List ℕ)) (input text other : List ℕ) (status elsewise : AnyStatus) → Answers words input status text
+        → Answers words input elsewise other → text ≡ other }
 {}
