@@ -105,6 +105,10 @@ fn answers_what_the_commands_say(rt: HostRuntime) -> Result<(), Fail> {
         line: 1,
         kind: Kind::Ended,
     };
+    let form = Status::Malformed {
+        line: 1,
+        kind: Kind::Form,
+    };
     let letter = Status::Malformed {
         line: 2,
         kind: Kind::Letter,
@@ -144,6 +148,20 @@ fn answers_what_the_commands_say(rt: HostRuntime) -> Result<(), Fail> {
             Status::Done,
             "vertices 1\nedges 2\neuler -1\nfraction 1/2\n",
             "",
+        ),
+        (
+            "surface",
+            LOW_ENTRY,
+            Status::Done,
+            "vertices 1\nedges 2\neuler -1\nfraction 1/2\n",
+            "",
+        ),
+        (
+            "surface",
+            b"scallop fan 1\n".as_slice(),
+            form,
+            "",
+            "scallop: malformed line 1 form\n",
         ),
         (
             "surface",
@@ -224,6 +242,10 @@ fn checks_certificates(rt: HostRuntime) -> Result<(), Fail> {
         line: 21,
         kind: Kind::Ended,
     };
+    let cut_off = Status::Malformed {
+        line: 1,
+        kind: Kind::Ended,
+    };
     let cases = [
         (CERTIFICATE, Status::Done, "optimal 1/2\n"),
         (ANNULUS_CERTIFICATE, Status::Done, "optimal 0/1\n"),
@@ -245,6 +267,7 @@ fn checks_certificates(rt: HostRuntime) -> Result<(), Fail> {
             "rejected tight\n",
         ),
         (UNENDED, ended, ""),
+        (b"scallop certificate 1".as_slice(), cut_off, ""),
         (COMMUTATOR, form, ""),
     ];
     for (input, status, out) in cases {
