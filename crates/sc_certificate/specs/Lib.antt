@@ -4,4 +4,9 @@ pub mod Certificates
 pub mod Progress
 pub mod WordsRead
 pub mod SidesRead
+pub mod Texts
+pub mod Reading
+pub mod BodyRead
+pub mod ListRead
+pub mod Head
 pub mod JournalRead

@@ -1,5 +1,5 @@
 -- What was read of a certificate text, and what is due after it.
-use Rattle.std.specs.Prelude.{◌≡◌, ℕ, ◌+◌, ◌-◌, ◌≤◌, Bool, true, false, nat_le, if◌then◌else◌, List, [], ◌∷◌, length, Option, Some, None, is_some, ℤ, codes}
+use Rattle.std.specs.Prelude.{◌≡◌, ℕ, ◌+◌, ◌-◌, ◌≤◌, Bool, true, false, ◌&&◌, nat_le, if◌then◌else◌, List, [], ◌∷◌, length, Option, Some, None, is_some, ℤ, codes}
 use Rattle.std.specs.Option.{option_map_or}
 use Rattle.sc_theory.specs.declared.Side.{Side}
 use Rattle.sc_theory.specs.Words.{Word}
@@ -14,10 +14,10 @@ use Rattle.sc_chain.specs.declared.limits.TheConstants.{MAX_WORDS, MAX_POSITIONS
 use Rattle.sc_text.specs.declared.limits.TheConstants.{MAX_COPIES, MAX_SIDES, MAX_PIVOTS}
 use Rattle.sc_text.specs.Lines.{Line}
 use Rattle.sc_text.specs.Surfaces.{ending, word_row, side_row}
-use Rattle.sc_text.specs.PriceLines.{base_row, base_in, pair_row, pair_price_in}
+use Rattle.sc_text.specs.PriceLines.{scale_row, scale_in, base_row, base_in, pair_row, pair_price_in}
 use Rattle.sc_text.specs.ValueLines.{Quotient, value_row, value_in}
 use Rattle.sc_text.specs.TableLines.{from_row, entries_in}
-use Rattle.sc_text.specs.Formats.{Format, told, a_line, due_line, after_line, literal, count, lines_of, price_lines, word_in, side_in}
+use Rattle.sc_text.specs.Formats.{Format, told, a_line, due_line, after_line, literal, count, lines_of, word_in, side_in}
 use Rattle.sc_certificate.specs.PivotLines.{pivot_row, pivot_in}
 use Rattle.sc_certificate.specs.Sizes.{list_of}
 use Rattle.sc_certificate.specs.Certificates.{Certificate, heading}
@@ -27,17 +27,32 @@ pub record Counted (A : Type 0) : Type 0 where
   pub count : Option ℕ
   pub items : List A
 
--- what was read
+-- what was read of a price list
+pub record ListSoFar : Type 0 where
+  pub scale : Option ℤ
+  pub base : List ℤ
+  pub pair : List ℤ
+
+-- what was read of the lines behind the value
+pub record BodySoFar : Type 0 where
+  pub copies : Option ℕ
+  pub sides : Counted Side
+  pub list : ListSoFar
+  pub tables : Tables
+  pub journal : Counted Pivot
+  pub ended : Bool
+
+-- what was read of a certificate
 pub record Progress : Type 0 where
   pub headed : Bool
   pub words : Counted (ℕ × Word)
   pub value : Option Quotient
-  pub copies : Option ℕ
-  pub sides : Counted Side
-  pub list : Option Prices
-  pub tables : Tables
-  pub journal : Counted Pivot
-  pub ended : Bool
+  pub body : BodySoFar
+
+-- a chain and a value
+pub record ChainAndValue : Type 0 where
+  pub chain : Chain
+  pub value : Quotient
 
 -- ---- the fault of a line, and of the bytes behind the last line, where this is due
 
@@ -80,12 +95,16 @@ value_due (Some q) rest = rest q
 abbrev pub sides_due : {V : Type 0} → Counted Side → (Sides → Format V) → Format V
 sides_due p rest = count_due p.count (codes "sides") 0 MAX_SIDES (λ m. items_due m (λ g. side_row) side_in p.items rest)
 
-abbrev pub list_due : {V : Type 0} → Chain → Option Prices → (Prices → Format V) → Format V
-list_due c None rest = price_lines c rest
-list_due c (Some list) rest =
-    items_due (length c) (λ prices. base_row) base_in list.base (λ base.
-    items_due (length (pairs c)) (λ prices. pair_row (pair_at c (length prices))) pair_price_in list.pair (λ pair.
-    rest (list_of list.scale base pair)))
+abbrev pub scale_due : {V : Type 0} → Option ℤ → (ℤ → Format V) → Format V
+scale_due None rest = a_line scale_row (λ line. rest (scale_in line))
+scale_due (Some d) rest = rest d
+
+abbrev pub list_due : {V : Type 0} → Chain → ListSoFar → (Prices → Format V) → Format V
+list_due c p rest =
+    scale_due p.scale (λ scale.
+    items_due (length c) (λ prices. base_row) base_in p.base (λ base.
+    items_due (length (pairs c)) (λ prices. pair_row (pair_at c (length prices))) pair_price_in p.pair (λ pair.
+    rest (list_of scale base pair))))
 
 abbrev pub tables_due : {V : Type 0} → Chain → Tables → (Tables → Format V) → Format V
 tables_due c tables rest = items_due (positions c) (λ rows. from_row (positions c) (length rows)) entries_in tables rest
@@ -93,24 +112,27 @@ tables_due c tables rest = items_due (positions c) (λ rows. from_row (positions
 abbrev pub journal_due : {V : Type 0} → Chain → Counted Pivot → (List Pivot → Format V) → Format V
 journal_due c p rest = count_due p.count (codes "pivots") 0 MAX_PIVOTS (λ k. items_due k (λ before. pivot_row c) pivot_in p.items rest)
 
-unfoldable pub due_of : Progress → Format Certificate
-due_of p =
-    text_due p.headed heading (words_due p.words (λ c.
-    value_due p.value (λ value.
-    count_due p.copies (codes "copies") 1 MAX_COPIES (λ n.
-    sides_due p.sides (λ g.
-    list_due c p.list (λ list.
-    tables_due c p.tables (λ tables.
-    journal_due c p.journal (λ journal.
-    text_due p.ended ending (told (record {
-      chain = c;
-      value = value;
+unfoldable pub body_due : ChainAndValue → BodySoFar → Format Certificate
+body_due h b =
+    count_due b.copies (codes "copies") 1 MAX_COPIES (λ n.
+    sides_due b.sides (λ g.
+    list_due h.chain b.list (λ list.
+    tables_due h.chain b.tables (λ tables.
+    journal_due h.chain b.journal (λ journal.
+    text_due b.ended ending (told (record {
+      chain = h.chain;
+      value = h.value;
       copies = n;
       sides = g;
       list = list;
       tables = tables;
       journal = journal;
-    }))))))))))
+    })))))))
+
+unfoldable pub due_of : Progress → Format Certificate
+due_of p =
+    text_due p.headed heading (words_due p.words (λ c.
+    value_due p.value (λ value. body_due (record { chain = c; value = value }) p.body)))
 
 -- ---- how many lines were read
 
@@ -124,10 +146,23 @@ one_if b = if b then 1 else 0
 abbrev pub counted_lines : {A : Type 0} → Counted A → ℕ
 counted_lines p = one_if (is_some p.count) + length p.items
 
-abbrev pub list_lines_read : Option Prices → ℕ
-list_lines_read None = 0
-list_lines_read (Some list) = 1 + length list.base + length list.pair
+-- the same of a price list, for so many words and inverse pairs
+abbrev pub is_whole_list : ℕ → ℕ → ListSoFar → Bool
+is_whole_list words pairs p = is_some p.scale && nat_le words (length p.base) && nat_le pairs (length p.pair)
 
-unfoldable pub lines_read : Progress → ℕ
-lines_read p =
-    one_if p.headed + counted_lines p.words + one_if (is_some p.value) + one_if (is_some p.copies) + counted_lines p.sides + list_lines_read p.list + length p.tables + counted_lines p.journal + one_if p.ended
+-- and whether all lines behind the value were read
+abbrev pub is_whole_body : ChainAndValue → BodySoFar → Bool
+is_whole_body h b =
+    is_some b.copies && is_whole b.sides && is_whole_list (length h.chain) (length (pairs h.chain)) b.list
+    && nat_le (positions h.chain) (length b.tables)
+    && is_whole b.journal
+    && b.ended
+
+abbrev pub list_lines_read : ListSoFar → ℕ
+list_lines_read p = one_if (is_some p.scale) + length p.base + length p.pair
+
+abbrev pub body_lines : BodySoFar → ℕ
+body_lines b = one_if (is_some b.copies) + counted_lines b.sides + list_lines_read b.list + length b.tables + counted_lines b.journal + one_if b.ended
+
+abbrev pub lines_read : Progress → ℕ
+lines_read p = one_if p.headed + counted_lines p.words + one_if (is_some p.value) + body_lines p.body

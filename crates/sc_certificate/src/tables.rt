@@ -78,6 +78,14 @@ impl Row {
         }
     }
 
+    /// The row of entries that are in their range.
+    pub fn of_small(entries: Vec<Option<i128>>) -> Row
+        requires { AllByRecursion IsEntryInRange entries.items }
+        ensures { result ≡ entries.items }
+    {
+        Row { entries }
+    }
+
     /// The entries in the order of the positions.
     pub fn entries(&self) -> &[Option<i128>]
         ensures entries { result.now ≡ self.now }

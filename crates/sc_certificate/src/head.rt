@@ -1,0 +1,107 @@
+//! What is known once the line of the value was read: the chain with its pairs, and the value.
+
+ghost use Rattle.std.specs.Prelude.{◌≡◌, IfErr, IfOk, None};
+ghost use Rattle.sc_theory.specs.Prices.{pairs as pairs_of};
+ghost use Rattle.sc_text.specs.LineFaults.{IsFault};
+ghost use Rattle.sc_text.specs.Surfaces.{IsChainInRange};
+ghost use Rattle.sc_text.specs.Formats.{Format};
+ghost use Rattle.sc_text.specs.ValueLines.{Quotient, value_row, quotient_of};
+ghost use Rattle.sc_certificate.specs.Certificates.{Certificate};
+ghost use Rattle.sc_certificate.specs.Progress.{Steps, value_due};
+
+use sc_chain::{Chain, ChainFault, Pairs, Word};
+use sc_fraction::Frac;
+use sc_text::{LineFault, value_line};
+use std::alloc::{AllocError, Global};
+use std::marker::Model;
+
+/// A chain, its pairs, and a value.
+#[derive(Drop)]
+pub struct Head {
+    value: Frac,
+    chain: Chain,
+    pairs: Pairs,
+}
+
+impl Model for Head {
+    ghost use Rattle.sc_certificate.specs.Progress.{ChainAndValue};
+
+    ghost Value = { ChainAndValue };
+
+    ghost use Rattle.sc_certificate.specs.Head.{chain_and_value, HasItsPairs};
+
+    ghost view = { chain_and_value };
+
+    ghost invariant = { HasItsPairs };
+}
+
+// The same words with their weights once more.
+fn copy_words(alloc: Global, words: &[(u32, Word)]) -> Result<Vec<(u32, Word)>, AllocError>
+    ensures { IfOk result (λ copies. copies.items ≡ words.now) }
+{
+    let mut copies = Vec::with_capacity(alloc, words.len())?;
+    for entry in words {
+        copies.push((entry.0, entry.1.copy(alloc)?))?;
+    }
+    Ok(copies)
+}
+
+// The chain of words that a text may hold.
+fn chain_of(alloc: Global, words: &[(u32, Word)]) -> Result<Chain, AllocError>
+    requires { IsChainInRange words.now }
+    ensures { IfOk result (λ chain. chain ≡ words.now) }
+{
+    match Chain::of_reduced(alloc, copy_words(alloc, words)?) {
+        Ok(chain) => Ok(chain),
+        Err(fault) => match fault {
+            ChainFault::Memory => Err(AllocError),
+            _ => unreachable!(),
+        },
+    }
+}
+
+impl Head {
+    /// The value of a line `value NUM/DEN`, and the chain of the words that were read before.
+    pub fn read(alloc: Global, line: &[u8], words: &[(u32, Word)]) -> Result<Head, LineFault>
+        requires { IsChainInRange words.now }
+        ensures chain { IfOk result (λ h. h.chain ≡ words.now) }
+        ensures ok { IfOk result (λ h. (rest : Quotient → Format Certificate) → Steps (value_due None rest) (rest h.value) line.now) }
+        ensures err { IfErr result (IsFault (value_row line.now)) }
+    {
+        let value = value_line(line)?;
+        let chain = chain_of(alloc, words)?;
+        let pairs = Pairs::of(alloc, &chain)?;
+        Ok(Head {
+            value,
+            chain,
+            pairs,
+        })
+    }
+
+    /// The chain.
+    pub fn chain(&self) -> &Chain
+        ensures { result.now ≡ self.now.chain }
+    {
+        &self.chain
+    }
+
+    /// The inverse pairs of the chain.
+    pub fn pairs(&self) -> &Pairs
+        ensures { result.now ≡ pairs_of self.now.chain }
+    {
+        &self.pairs
+    }
+
+    /// The chain and the value.
+    pub fn into_parts(self) -> (Chain, Frac)
+        ensures chain { result.0 ≡ self.chain }
+        ensures value { quotient_of result.1 ≡ self.value }
+    {
+        let Head {
+            value,
+            chain,
+            pairs: _,
+        } = self;
+        (chain, value)
+    }
+}
