@@ -3,8 +3,8 @@ use Rattle.std.specs.Prelude.{◌≡◌, List, pos, ◌*◌}
 use Rattle.sc_theory.specs.Fatgraphs.{IsFatgraph, cost}
 use Rattle.sc_theory.specs.Prices.{Prices, Tables, Vouch, IsTight}
 use Rattle.sc_fraction.specs.declared.frac.Frac.{Frac}
-use Rattle.sc_fraction.specs.Frac.{numerator, denominator}
 use Rattle.sc_fraction.specs.Quotient.{SameQuotient}
+use Rattle.sc_text.specs.ValueLines.{quotient_of}
 use Rattle.sc_chain.specs.declared.polygon.Pivot.{Pivot}
 use Rattle.sc_fatgraph.specs.Surfaces.{Surface, surface}
 use Rattle.sc_fatgraph.specs.Flaws.{IsFirstFlaw}
@@ -22,7 +22,7 @@ abbrev pub stated : Surface → Frac → Prices → Tables → List Pivot → Ce
 stated f value list tables journal =
     record {
       chain = f.chain;
-      value = (numerator value, denominator value);
+      value = quotient_of value;
       copies = f.copies;
       sides = f.sides;
       list = list;
@@ -70,7 +70,7 @@ IsFirstFailing v NotTight = FailsInTightness v
 
 -- a verdict: the stated value where all conditions hold, else the first that fails
 abbrev pub IsVerdictOn : Certificate → Verdict → Type 0
-IsVerdictOn v (Optimal value) = (v.value ≡ (numerator value, denominator value)) × AllHold v
+IsVerdictOn v (Optimal value) = (v.value ≡ quotient_of value) × AllHold v
 IsVerdictOn v (Rejected condition) = IsFirstFailing v condition
 
 -- P holds of the value of a verdict that answers one
