@@ -2,3 +2,4 @@ pub mod StepPrices
 pub mod Sizes
 pub mod TableFlaws
 pub mod Failing
+pub mod Pieces

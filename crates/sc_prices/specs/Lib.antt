@@ -3,3 +3,4 @@ pub mod Rows
 pub mod Sizes
 pub mod Conditions
 pub mod Answers
+pub mod Parts

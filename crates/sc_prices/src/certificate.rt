@@ -1,14 +1,18 @@
 //! Certificates, and what they are judged to be.
 
-ghost use Rattle.std.specs.Prelude.{◌≡◌, ◌*◌, pos, IfOk};
+ghost use Rattle.std.specs.Prelude.{◌≡◌, ◌⊎◌, ℕ, ◌*◌, pos, IfOk, IfErr, OnOk};
+ghost use Rattle.std.specs.Result.{IsErrAnd};
 ghost use Rattle.sc_theory.specs.Fatgraphs.{IsLeast, cost};
 ghost use Rattle.sc_fraction.specs.Frac.{IsQuotient};
-ghost use Rattle.sc_certificate.specs.Certificates.{IsCertificateInRange};
+ghost use Rattle.sc_chain.specs.declared.fault.Kind.{Kind};
+ghost use Rattle.sc_chain.specs.declared.fault.TextFault.TheVariants as text_faults;
+ghost use Rattle.sc_text.specs.Faults.{IsFaultless, IsFaultOf, IsFirstFault};
+ghost use Rattle.sc_certificate.specs.Certificates.{Certificate as AnyCertificate, certificate_text, certificate_plan, IsCertificateInRange};
 
 use crate::judging::verdict_on;
 use crate::verdict::{Condition, Verdict};
-use sc_certificate::{PriceList, Tables};
-use sc_chain::{Chain, Pivot};
+use sc_certificate::{CertificateText, PriceList, Tables, read_certificate_text};
+use sc_chain::{Chain, Pivot, TextFault};
 use sc_fatgraph::{Fatgraph, Sides, SurfaceFault};
 use sc_fraction::Frac;
 use std::alloc::{AllocError, Global};
@@ -36,6 +40,43 @@ pub struct Certificate {
 impl Certificate {
     ghost use Rattle.sc_prices.specs.declared.verdict.Condition.{Condition as AnyCondition};
     ghost use Rattle.sc_prices.specs.Conditions.{certificate_of, AllHold, IsFirstFailing, IsVerdictOn, IfOptimal};
+
+    /// The certificate whose text the bytes are. A fault is the first line, counted from 1, that isn't as it is due, with the
+    /// first kind that applies to it.
+    pub fn read(alloc: Global, bytes: &[u8]) -> Result<Certificate, TextFault>
+        // What is read is the certificate of which the bytes are the text.
+        ensures text { IfOk result (λ s. bytes.now ≡ certificate_text (certificate_of s)) }
+        ensures in_range { IfOk result (λ s. IsCertificateInRange (certificate_of s)) }
+        ensures faultless { OnOk result (IsFaultless certificate_plan bytes.now) }
+
+        // The fault that is answered is the first one, and the first fault is answered, unless memory runs out.
+        ensures malformed { IfErr result (IsFaultOf certificate_plan bytes.now) }
+        ensures only { (line : ℕ) (kind : Kind) → IsFirstFault certificate_plan bytes.now line kind
+            → IsErrAnd result (λ e. (e ≡ text_faults.Malformed line kind) ⊎ (e ≡ text_faults.Memory)) }
+
+        // The text of a certificate in its ranges is read as that certificate, unless memory runs out.
+        ensures read { (v : AnyCertificate) → IsCertificateInRange v → bytes.now ≡ certificate_text v → IfOk result (λ s. certificate_of s ≡ v) }
+        ensures memory { (v : AnyCertificate) → IsCertificateInRange v → bytes.now ≡ certificate_text v → IfErr result (λ e. e ≡ text_faults.Memory) }
+    {
+        let CertificateText {
+            chain,
+            value,
+            copies,
+            sides,
+            list,
+            tables,
+            journal,
+        } = read_certificate_text(alloc, bytes)?;
+        Ok(Certificate {
+            chain,
+            value,
+            n: copies,
+            sides: Sides::from_vec(sides),
+            list,
+            tables,
+            journal,
+        })
+    }
 
     /// `Optimal` with the stated value where all conditions hold, else the first that fails.
     pub fn judge(self, alloc: Global) -> Result<Verdict, AllocError>

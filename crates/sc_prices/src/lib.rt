@@ -7,6 +7,7 @@ mod flaws;
 mod judging;
 pub mod laws;
 mod prices;
+mod printing;
 mod tightness;
 mod verdict;
 mod vouching;

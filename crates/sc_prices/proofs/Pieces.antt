@@ -1,0 +1,113 @@
+-- The pieces of a certificate text, and of its lines.
+use Rattle.std.proofs.Common.{◌≡◌, ℕ, ◌+◌, ◌<◌, ◌≤◌, take, drop, Option, zero-add, subst, List, [], ◌∷◌, ◌++◌, map, length, get_or, codes, pos, ℤ, refl, sym, ap, ◌∙◌, append_assoc, append-nil, arith}
+use Rattle.std.specs.List.{flat_map, zip, enumerate_from}
+use Rattle.std.proofs.lemmas.List.{take_all}
+use Rattle.std.proofs.lemmas.Slice.Zip.{get_or-zip, length-zip}
+use Rattle.std.proofs.lemmas.List.FromFn.{get_or-enumerate_from}
+use Rattle.std.proofs.lemmas.List.Concat.{flat_map-append}
+use Rattle.sc_theory.specs.Prices.{Tables, pairs}
+use Rattle.sc_text.specs.TableLines.{from_line}
+use Rattle.sc_whole.specs.Spelling.{spelling}
+use Rattle.sc_text.specs.Lines.{Line, ended, text_of}
+use Rattle.sc_text.specs.Surfaces.{ending, count_line, words_lines, sides_lines}
+use Rattle.sc_text.specs.PriceLines.{scale_line, base_line, pair_line}
+use Rattle.sc_text.specs.ValueLines.{value_line}
+use Rattle.sc_text.proofs.PrintLaws.{line_flat, flat_map-map, pieces_at, pieces_more, part_after, lines_at}
+use Rattle.sc_text.specs.Printing.{AppendsPart}
+use Rattle.sc_certificate.specs.PivotLines.{pivot_line}
+use Rattle.sc_certificate.specs.Certificates.{Certificate, heading, list_lines, tables_lines, journal_lines, certificate_lines, certificate_text}
+use Rattle.sc_prices.specs.declared.printing.Part.{Part}
+use Rattle.sc_prices.specs.declared.printing.TheConstants.{PARTS}
+use Rattle.sc_prices.specs.Parts.{part_text, pair_lines}
+
+-- the pieces of the line of a pivot
+pub pivot_pieces : (row : ℕ) (walk : List ℕ) → ended (pivot_line (record { row = row; polygon = walk })) ≡ codes "pivot " ++ (spelling (pos row) ++ (flat_map (λ i. 32 ∷ spelling (pos i)) walk ++ 10 ∷ []))
+pivot_pieces row walk =
+    ap (λ (t : List ℕ). t ++ 10 ∷ []) (ap (λ (t : List ℕ). codes "pivot " ++ t) (line_flat (λ i. spelling (pos i)) (spelling (pos row)) walk))
+    ∙ ap (λ (t : List ℕ). codes "pivot " ++ t) (append_assoc (spelling (pos row)) (flat_map (λ i. 32 ∷ spelling (pos i)) walk) (10 ∷ []))
+
+lines_first : (ks ls : List Line) → text_of (ks ++ ls) ≡ text_of ks ++ text_of ls
+lines_first ks ls = flat_map-append ended ks ls
+
+-- the parts in their order are the text
+pub parts_are_text : (v : Certificate) → certificate_text v ≡ flat_map (part_text v) PARTS
+parts_are_text v =
+    let words : List Line = words_lines v.chain in
+    let sides : List Line = sides_lines v.sides in
+    let bases : List Line = map base_line v.list.base in
+    let prices : List Line = pair_lines (pairs v.chain) v.list.pair in
+    let tables : List Line = tables_lines v.tables in
+    let pivots : List Line = map pivot_line v.journal in
+    let from_journal : List Line = journal_lines v.journal ++ ending ∷ [] in
+    let from_tables : List Line = tables ++ from_journal in
+    let from_list : List Line = list_lines v.chain v.list ++ from_tables in
+    let journal = ap (λ (t : List ℕ). ended (count_line (codes "pivots") (length v.journal)) ++ t) (lines_first pivots (ending ∷ [])) in
+    let behind_list = lines_first tables from_journal ∙ ap (λ (t : List ℕ). text_of tables ++ t) journal in
+    let list =
+    ap (λ (t : List ℕ). ended (scale_line v.list.scale) ++ t)
+    (lines_first (bases ++ prices) from_tables
+    ∙ ap (λ (t : List ℕ). t ++ text_of from_tables) (lines_first bases prices)
+    ∙ append_assoc (text_of bases) (text_of prices) (text_of from_tables)
+    ∙ ap (λ (t : List ℕ). text_of bases ++ (text_of prices ++ t)) behind_list) in
+    let behind_value = lines_first sides from_list ∙ ap (λ (t : List ℕ). text_of sides ++ t) list in
+    ap (λ (t : List ℕ). ended heading ++ t)
+    (lines_first words (value_line v.value ∷ count_line (codes "copies") v.copies ∷ (sides ++ from_list))
+    ∙ ap (λ (t : List ℕ). text_of words ++ (ended (value_line v.value) ++ (ended (count_line (codes "copies") v.copies) ++ t))) behind_value)
+
+-- ---- lines one after another
+
+module _ {X : Type 0} (f : X → Line) (xs : List X) (i : ℕ) (d : X) (line : Line) (inside : i < length xs) (is : line ≡ f (get_or xs i d)) where
+  pub lines_more : (old mid new : List ℕ) → mid ≡ old ++ text_of (map f (take i xs)) → new ≡ mid ++ ended line → new ≡ old ++ text_of (map f (take (i + 1) xs))
+  lines_more old mid new before here =
+      here
+      ∙ ap (λ (t : List ℕ). t ++ ended line) before
+      ∙ ap (λ (t : List ℕ). (old ++ text_of (map f (take i xs))) ++ ended t) is
+      ∙ ap (λ (t : List ℕ). (old ++ t) ++ ended (f (get_or xs i d))) (flat_map-map ended f (take i xs))
+      ∙ pieces_more (λ x. ended (f x)) old xs i d inside
+      ∙ ap (λ (t : List ℕ). old ++ t) (sym (flat_map-map ended f (take (i + 1) xs)))
+
+  pub lines_part : (old mid new : List ℕ) → mid ≡ old ++ text_of (map f (take i xs)) → AppendsPart mid new (ended line) → AppendsPart old new (text_of (map f xs))
+  lines_part old mid new before part =
+      part_after old mid new (text_of (map f (take i xs))) (ended (f (get_or xs i d))) (text_of (map f (drop (i + 1) xs))) (text_of (map f xs)) before
+      (subst (λ (t : Line). AppendsPart mid new (ended t)) is part) (lines_at f xs i d inside)
+
+pub lines_done : {X : Type 0} (f : X → Line) (xs : List X) (i : ℕ) (old mid : List ℕ) → length xs ≤ i → mid ≡ old ++ text_of (map f (take i xs)) → mid ≡ old ++ text_of (map f xs)
+lines_done f xs i old mid past before = before ∙ ap (λ ys. old ++ text_of (map f ys)) (take_all i xs past)
+
+-- ---- pairs beside their prices, and rows beside their starts
+
+module _ (ps : List (ℕ × ℕ)) (prices : List ℤ) (i : ℕ) where
+  pub zip_inside : length prices ≡ length ps → i < length prices → i < length (zip ps prices)
+  zip_inside same h = omega (arith, length-zip ps prices)
+
+  pub zip_past : length prices ≡ length ps → length prices ≤ i → length (zip ps prices) ≤ i
+  zip_past same h = omega (arith, length-zip ps prices)
+
+  pub zip_line : (p : ℕ × ℕ) → length prices ≡ length ps → i < length prices → p ≡ get_or ps i (0, 0)
+      → pair_line p (get_or prices i (pos 0)) ≡ pair_line (get_or (zip ps prices) i ((0, 0), pos 0)).0 (get_or (zip ps prices) i ((0, 0), pos 0)).1
+  zip_line p same h e =
+      ap (λ (q : ℕ × ℕ). pair_line q (get_or prices i (pos 0))) e
+      ∙ ap (λ (x : (ℕ × ℕ) × ℤ). pair_line x.0 x.1) (sym (get_or-zip ps prices i ((0, 0), pos 0) (omega arith) h))
+
+pub row_line : (tables : Tables) (i : ℕ) (row : List (Option ℤ)) → i < length tables → row ≡ get_or tables i []
+    → from_line i row ≡ from_line (get_or (enumerate_from 0 tables) i (0, [])).0 (get_or (enumerate_from 0 tables) i (0, [])).1
+row_line tables i row h e =
+    ap (from_line i) e
+    ∙ ap (λ (k : ℕ). from_line k (get_or tables i [])) (sym (zero-add i))
+    ∙ ap (λ (x : ℕ × List (Option ℤ)). from_line x.0 x.1) (sym (get_or-enumerate_from 0 tables i (0, []) h))
+
+-- ---- part by part
+
+module _ (v : Certificate) (i : ℕ) (d : Part) (inside : i < length PARTS) (old mid new : List ℕ) (before : mid ≡ old ++ flat_map (part_text v) (take i PARTS)) where
+  pub part_more : new ≡ mid ++ part_text v (get_or PARTS i d) → new ≡ old ++ flat_map (part_text v) (take (i + 1) PARTS)
+  part_more here = here ∙ ap (λ (t : List ℕ). t ++ part_text v (get_or PARTS i d)) before ∙ pieces_more (part_text v) old PARTS i d inside
+
+  pub part_stopped : AppendsPart mid new (part_text v (get_or PARTS i d)) → AppendsPart old new (certificate_text v)
+  part_stopped part =
+      subst (AppendsPart old new) (sym (parts_are_text v))
+      (part_after old mid new (flat_map (part_text v) (take i PARTS)) (part_text v (get_or PARTS i d)) (flat_map (part_text v) (drop (i + 1) PARTS)) (flat_map (part_text v) PARTS)
+      before part (pieces_at (part_text v) PARTS i d inside))
+
+pub parts_done : (v : Certificate) (i : ℕ) (old mid : List ℕ) → length PARTS ≤ i → mid ≡ old ++ flat_map (part_text v) (take i PARTS) → mid ≡ old ++ certificate_text v
+parts_done v i old mid past before =
+    before ∙ ap (λ ps. old ++ flat_map (part_text v) ps) (take_all i PARTS past) ∙ ap (λ (t : List ℕ). old ++ t) (sym (parts_are_text v))

@@ -1,0 +1,31 @@
+-- The text of a certificate in parts.
+use Rattle.std.specs.Prelude.{ℕ, ℤ, List, map, length, codes}
+use Rattle.std.specs.List.{zip}
+use Rattle.sc_theory.specs.Prices.{pairs}
+use Rattle.sc_text.specs.Lines.{Line, ended, text_of}
+use Rattle.sc_text.specs.Surfaces.{ending, count_line, words_lines, sides_lines}
+use Rattle.sc_text.specs.PriceLines.{scale_line, base_line, pair_line}
+use Rattle.sc_text.specs.ValueLines.{value_line}
+use Rattle.sc_certificate.specs.PivotLines.{pivot_line}
+use Rattle.sc_certificate.specs.Certificates.{Certificate, heading, tables_lines}
+use Rattle.sc_prices.specs.declared.printing.Part.{Part}
+use Rattle.sc_prices.specs.declared.printing.Part.TheVariants.{Heading, Words, Value, Copies, Sides, Scale, Bases, Pairs, Tables, Pivots, Journal, End}
+
+-- the lines of the prices of pairs
+abbrev pub pair_lines : List (ℕ × ℕ) → List ℤ → List Line
+pair_lines ps prices = map (λ e. pair_line e.0 e.1) (zip ps prices)
+
+-- the bytes of a part
+abbrev pub part_text : Certificate → Part → List ℕ
+part_text v Heading = ended heading
+part_text v Words = text_of (words_lines v.chain)
+part_text v Value = ended (value_line v.value)
+part_text v Copies = ended (count_line (codes "copies") v.copies)
+part_text v Sides = text_of (sides_lines v.sides)
+part_text v Scale = ended (scale_line v.list.scale)
+part_text v Bases = text_of (map base_line v.list.base)
+part_text v Pairs = text_of (pair_lines (pairs v.chain) v.list.pair)
+part_text v Tables = text_of (tables_lines v.tables)
+part_text v Pivots = ended (count_line (codes "pivots") (length v.journal))
+part_text v Journal = text_of (map pivot_line v.journal)
+part_text v End = ended ending
