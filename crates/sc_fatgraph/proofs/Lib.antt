@@ -4,3 +4,4 @@ pub mod NextMarks
 pub mod LabelCounts
 pub mod FlawLaws
 pub mod ReadChains
+pub mod TextRanges

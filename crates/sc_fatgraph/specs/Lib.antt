@@ -2,3 +2,4 @@ pub mod Orbits
 pub mod Flaws
 pub mod Faults
 pub mod Surfaces
+pub mod Texts

@@ -16,7 +16,7 @@ pub use flaws::{FlawKind, SurfaceFault};
 pub use sc_theory::Side;
 pub use side_list::Sides;
 pub use surface::{Counts, Fatgraph};
-pub use text::{SurfaceText, read_surface};
+pub use text::{SurfaceText, print_surface, read_surface};
 
 #[cfg(test)]
 mod tests;

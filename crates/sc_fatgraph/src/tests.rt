@@ -345,3 +345,22 @@ fn keeps_the_sides_in_order(rt: HostRuntime) -> Result<(), AllocError> {
     assert_eq!(rt; fatgraph.side(3), last);
     Ok(())
 }
+
+const TEXT_A: &[u8] =
+    b"scallop surface 1\nwords 1\nword 1 abAB\ncopies 1\nsides 4\nside 0 2 1\nside 1 3 2\nside 2 0 3\nside 3 1 0\nend\n";
+
+const TEXT_B: &[u8] =
+    b"scallop surface 1\nwords 1\nword 1 abAB\ncopies 2\nsides 8\nside 0 2 1\nside 1 3 2\nside 2 0 3\nside 3 1 4\nside 0 6 5\nside 1 7 6\nside 2 4 7\nside 3 5 0\nend\n";
+
+#[test]
+fn what_was_read_is_printed_again(rt: HostRuntime) -> Result<(), AllocError> {
+    let alloc = rt.alloc();
+    for text in [TEXT_A, TEXT_B] {
+        let SurfaceText { chain, n, sides } = read_surface(alloc, text).expect(&rt, "a text");
+        let fatgraph = Fatgraph::check(alloc, chain, n, sides).expect(&rt, "a fatgraph");
+        let mut out = Vec::new(alloc);
+        print_surface(&fatgraph, &mut out)?;
+        assert_eq!(rt; out.as_slice(), text);
+    }
+    Ok(())
+}

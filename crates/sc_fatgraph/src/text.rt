@@ -1,16 +1,22 @@
 //! Surfaces as texts.
 
-ghost use Rattle.std.specs.Prelude.{◌≡◌, ◌⊎◌, ◌++◌, ◌≤◌, ℕ, IfOk, IfErr, OnOk, OnErr, take, length};
+ghost use Rattle.std.specs.Prelude.{◌≡◌, ◌⊎◌, ◌++◌, ℕ, IfOk, IfErr, OnOk, OnErr, MatchResult};
 ghost use Rattle.std.specs.Result.{IsErrAnd};
+ghost use Rattle.sc_theory.specs.Chains.{Chain as AnyChain};
+ghost use Rattle.sc_theory.specs.Fatgraphs.{Sides as AnySides};
+ghost use Rattle.sc_chain.specs.Faults.{IsSmallChain};
 ghost use Rattle.sc_chain.specs.declared.fault.Kind.{Kind};
 ghost use Rattle.sc_chain.specs.declared.fault.TextFault.TheVariants as text_faults;
 ghost use Rattle.sc_text.specs.Faults.{IsFaultless, IsFaultOf, IsFirstFault};
 ghost use Rattle.sc_text.specs.Surfaces.{surface_text, surface_table, IsSurfaceInRange};
+ghost use Rattle.sc_text.specs.Printing.{AppendsPart};
+ghost use Rattle.sc_fatgraph.specs.Texts.{text_of_surface, HaveWeights};
 
 use crate::side_list::Sides;
-use sc_chain::{Chain, ChainFault, TextFault};
-use sc_text::{Surface, read_surface_text};
-use std::alloc::Global;
+use crate::surface::Fatgraph;
+use sc_chain::{Chain, ChainFault, TextFault, Word};
+use sc_text::{Surface, print_surface_text, read_surface_text};
+use std::alloc::{AllocError, Global};
 
 /// What a surface text says. The sides need not be a labelled fatgraph.
 #[derive(Debug, Drop)]
@@ -35,6 +41,10 @@ pub fn read_surface(alloc: Global, bytes: &[u8]) -> Result<SurfaceText, TextFaul
     ensures malformed { IfErr result (IsFaultOf surface_table bytes.now) }
     ensures only { (line : ℕ) (kind : Kind) → IsFirstFault surface_table bytes.now line kind
         → IsErrAnd result (λ e. (e ≡ text_faults.Malformed line kind) ⊎ (e ≡ text_faults.Memory)) }
+
+    // The text of a surface is read as that surface, unless memory runs out.
+    ensures again { (c : AnyChain) (n : ℕ) (g : AnySides) → IsSurfaceInRange c n g → bytes.now ≡ surface_text c n g
+        → MatchResult result (λ s. (s.chain ≡ c) × (s.n ≡ n) × (s.sides ≡ g)) (λ e. e ≡ text_faults.Memory) }
 {
     let Surface {
         words,
@@ -52,4 +62,27 @@ pub fn read_surface(alloc: Global, bytes: &[u8]) -> Result<SurfaceText, TextFaul
             _ => unreachable!(),
         },
     }
+}
+
+// The words of a chain, each behind its weight.
+fn entries_of(chain: &Chain) -> &[(u32, Word)]
+    ensures words { result.now ≡ chain.now }
+    ensures small { IsSmallChain chain.now }
+{
+    let entries = chain.entries();
+    let count = chain.words();
+    prove!(entries.len() == count);
+    entries
+}
+
+/// Appends the text of a fatgraph. Where memory runs out, a front of the text was appended.
+pub fn print_surface(fatgraph: &Fatgraph, out: &mut Vec<u8>) -> Result<(), AllocError>
+    ensures ok { OnOk result (out.new.items ≡ out.old.items ++ text_of_surface fatgraph.now) }
+    ensures err { OnErr result (AppendsPart out.old.items out.new.items (text_of_surface fatgraph.now)) }
+
+    // Where the weights are in their range, `read_surface` reads the text as this surface.
+    ensures readable { HaveWeights fatgraph.now.chain → IsSurfaceInRange fatgraph.now.chain fatgraph.now.copies fatgraph.now.sides }
+{
+    let entries = entries_of(fatgraph.chain());
+    print_surface_text(entries, fatgraph.copies(), fatgraph.sides().as_slice(), out)
 }

@@ -20,7 +20,7 @@ abbrev pub from_to : ℤ → ℤ → NumberRange
 from_to low high z = int_le low z && int_le z high
 
 abbrev pub between : ℕ → ℕ → NumberRange
-between low high z = int_le (pos low) z && int_le z (pos high)
+between low high z = from_to (pos low) (pos high) z
 
 -- whether the fields are as many numbers as there are ranges
 abbrev pub are_numbers : List NumberRange → List Field → Bool

@@ -132,19 +132,6 @@ pub fn number_of(field: &[u8]) -> Result<Option<i128>, Kind>
 }
 
 /// A number of a text, where it is in its range.
-pub fn in_range(number: Option<i128>, low: u32, high: u32) -> Result<u32, Kind>
-    ensures ok { IfOk result (λ n. (number ≡ Some (pos n)) × (low ≤ n) × (n ≤ high)) }
-    ensures err { IfErr result (λ kind. (kind ≡ kinds.Range) × ((z : ℤ) → IsNarrowed z number → between low high z ≡ false)) }
-{
-    match number {
-        Some(number) if number >= i128::from(low) && number <= i128::from(high) => Ok(
-            number as u32,
-        ),
-        _ => Err(Kind::Range),
-    }
-}
-
-/// A number of a text, where it is in its range.
 pub fn within(number: Option<i128>, low: i128, high: i128) -> Result<i128, Kind>
     ensures ok { IfOk result (λ z. (number ≡ Some z) × (low ≤ℤ z) × (z ≤ℤ high)) }
     ensures err { IfErr result (λ kind. (kind ≡ kinds.Range) × ((z : ℤ) → IsNarrowed z number → from_to low high z ≡ false)) }
@@ -153,6 +140,14 @@ pub fn within(number: Option<i128>, low: i128, high: i128) -> Result<i128, Kind>
         Some(number) if number >= low && number <= high => Ok(number),
         _ => Err(Kind::Range),
     }
+}
+
+/// A natural number of a text, where it is in its range.
+pub fn in_range(number: Option<i128>, low: u32, high: u32) -> Result<u32, Kind>
+    ensures ok { IfOk result (λ n. (number ≡ Some (pos n)) × (low ≤ n) × (n ≤ high)) }
+    ensures err { IfErr result (λ kind. (kind ≡ kinds.Range) × ((z : ℤ) → IsNarrowed z number → between low high z ≡ false)) }
+{
+    Ok(within(number, i128::from(low), i128::from(high))? as u32)
 }
 
 /// A line that is due word by word.
@@ -168,18 +163,6 @@ pub fn literal_line(line: &[u8], text: &[u8]) -> Result<(), Kind>
 }
 
 /// The number of a line `NAME NUMBER`.
-pub fn count_line(line: &[u8], name: &[u8], low: u32, high: u32) -> Result<u32, Kind>
-    ensures ok { IfOk result (λ n. (line.now ≡ surfaces.count_line name.now n) × (low ≤ n) × (n ≤ high)) }
-    ensures err { IfErr result (λ kind. numbers_line_fault name.now (between low high ∷ []) line.now ≡ Some kind) }
-{
-    let mut fields = Fields::of(line);
-    fields.name(name)?;
-    let number = fields.number()?;
-    fields.end()?;
-    in_range(number, low, high)
-}
-
-/// The number of a line `NAME NUMBER`.
 pub fn number_line(line: &[u8], name: &[u8], low: i128, high: i128) -> Result<i128, Kind>
     ensures ok { IfOk result (λ z. (line.now ≡ numbers_line name.now (z ∷ [])) × (low ≤ℤ z) × (z ≤ℤ high)) }
     ensures err { IfErr result (λ kind. numbers_line_fault name.now (from_to low high ∷ []) line.now ≡ Some kind) }
@@ -189,4 +172,12 @@ pub fn number_line(line: &[u8], name: &[u8], low: i128, high: i128) -> Result<i1
     let number = fields.number()?;
     fields.end()?;
     within(number, low, high)
+}
+
+/// The natural number of a line `NAME NUMBER`.
+pub fn count_line(line: &[u8], name: &[u8], low: u32, high: u32) -> Result<u32, Kind>
+    ensures ok { IfOk result (λ n. (line.now ≡ surfaces.count_line name.now n) × (low ≤ n) × (n ≤ high)) }
+    ensures err { IfErr result (λ kind. numbers_line_fault name.now (between low high ∷ []) line.now ≡ Some kind) }
+{
+    Ok(number_line(line, name, i128::from(low), i128::from(high))? as u32)
 }

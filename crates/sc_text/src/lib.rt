@@ -35,4 +35,6 @@ pub use values::{print_value_line, value_line};
 pub use words::word_line;
 
 #[cfg(test)]
+mod line_tests;
+#[cfg(test)]
 mod tests;

@@ -1,4 +1,4 @@
-use Rattle.std.proofs.Common.{◌≡◌, ◌≢◌, ◌↔◌, ◌*◌, ◌/◌, ◌≤◌, ℕ, ℤ, pos, unsigned_abs, Result, Ok, Err, IsOk, IfErr, refl, arith, subst, sym, ◌-ℤ◌, ◌*ℤ◌, to_z, of_z}
+use Rattle.std.proofs.Common.{◌≡◌, ◌↔◌, ◌*◌, ◌/◌, ◌≤◌, ℕ, ℤ, pos, unsigned_abs, Result, Ok, Err, IsOk, IfErr, refl, arith, subst, ◌-ℤ◌, ◌*ℤ◌, to_z, of_z}
 use Rattle.std.proofs.lemmas.Bool.{le-ltb}
 use Rattle.std.proofs.lemmas.Int.{ints}
 use Rattle.std.specs.Int.{w128}
@@ -9,7 +9,7 @@ use Rattle.sc_fraction.specs.declared.frac.Frac.{Frac}
 use Rattle.sc_fraction.specs.declared.fault.FracFault.{FracFault}
 use Rattle.sc_fraction.specs.declared.fault.FracFault.TheVariants.{Zero, Wide}
 use Rattle.sc_fraction.specs.Fault.{IfWide}
-use Rattle.sc_fraction.specs.Steps.{ForReduced, reduce_steps}
+use Rattle.sc_fraction.specs.Steps.{ForReduced}
 use Rattle.sc_fatgraph.proofs.cost.fraction.Goals as goal
 
 -- a number of 128 bits as the code holds it
