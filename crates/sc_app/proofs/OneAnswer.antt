@@ -1,5 +1,5 @@
 -- An input has one answer.
-use Rattle.std.proofs.Common.{◌≡◌, ℕ, ◌<◌, ◌≤◌, ◌⊎◌, inl, inr, List, [], ◌∷◌, length, get_or, ℤ, IsSome, is_some, None, Some, IfSome, Option, refl, ap, ap₂, ◌∙◌, subst, sym, arith}
+use Rattle.std.proofs.Common.{◌≡◌, ℕ, ◌⊎◌, inl, inr, List, [], length, get_or, ℤ, IsSome, is_some, None, Some, IfSome, Option, refl, ap, ap₂, ◌∙◌, subst, sym, arith}
 use Rattle.std.proofs.lemmas.Bool.{cases_lt, false≢true}
 use Rattle.sc_theory.specs.Chains.{Chain, IsBalanced}
 use Rattle.sc_theory.specs.Fatgraphs.{Sides, IsFatgraph}
@@ -8,33 +8,32 @@ use Rattle.sc_chain.specs.declared.lines.RawLine.{RawLine}
 use Rattle.sc_chain.specs.ChainText.{IsChainText, IsFirstMalformed, line_case, line_at, line_kind}
 use Rattle.sc_chain.specs.Balance.{IsFirstUnbalanced}
 use Rattle.sc_reduce.specs.Lines.{chain_of, IsWithin, HasManyWords, HasManyPositions}
-use Rattle.sc_text.specs.Faults.{IsFaultless, IsFirstFault}
-use Rattle.sc_text.specs.Surfaces.{surface_table}
+use Rattle.sc_text.specs.Faults.{IsFirstFault}
 use Rattle.sc_text.proofs.FaultLaws.{first_fault-unique, faultless_first}
-use Rattle.sc_text.proofs.Faultless.{faultless_text}
-use Rattle.sc_text.proofs.OneText.{one_text, SameSurface}
+use Rattle.sc_text.proofs.OneText.{SameSurface}
 use Rattle.sc_fatgraph.specs.declared.flaws.FlawKind.{FlawKind}
 use Rattle.sc_fatgraph.specs.Flaws.{IsFirstFlaw}
 use Rattle.sc_fatgraph.proofs.FlawLaws.{fatgraph_has_none, first_flaw_alone}
+use Rattle.sc_certificate.specs.Certificates.{Certificate, certificate_plan}
+use Rattle.sc_prices.specs.declared.verdict.Condition.{Condition}
+use Rattle.sc_prices.specs.declared.verdict.Condition.TheVariants.{Flaw, Value, Table, NotTight}
+use Rattle.sc_prices.specs.Conditions.{AllHold, IsFirstFailing}
+use Rattle.sc_prices.proofs.Failing.{one_failing, none_failing}
 use Rattle.sc_app.specs.declared.command.Command.{Command}
-use Rattle.sc_app.specs.declared.command.Command.TheVariants.{Surface, Scl}
+use Rattle.sc_app.specs.declared.command.Command.TheVariants.{Surface, Check, Scl}
 use Rattle.sc_app.specs.declared.status.Status.{Status}
 use Rattle.sc_app.specs.declared.status.Status.TheVariants.{Done, Usage, Malformed, Large, ReadFault, WriteFault, Memory, Rejected, Unbuilt}
 use Rattle.sc_app.specs.declared.status.What.TheVariants.{Bytes, Words, Positions}
 use Rattle.sc_app.specs.Forms.{IsForm}
-use Rattle.sc_app.specs.Surface.{SurfaceResponds, IsTextOf}
+use Rattle.sc_app.specs.Surface.{SurfaceResponds, Says, plan_for}
+use Rattle.sc_app.specs.Check.{CheckResponds, IsCertificateText}
 use Rattle.sc_app.specs.Scl.{SclResponds}
 use Rattle.sc_outside.specs.Told.{Took}
-use Rattle.sc_app.specs.Answers.{limit_of, Responds, AnswersTo, Answers, Delivers, MayAnswer, IsAsked, IsUnasked, IsExcused}
+use Rattle.sc_app.proofs.Inputs.{certificate_faultless, same_certificate, says_no_fault, same_surface}
+use Rattle.sc_app.proofs.OneText.{one_text}
+use Rattle.sc_app.specs.Answers.{Responds, AnswersTo, Answers, Delivers, MayAnswer, IsAsked, IsUnasked, IsExcused}
 
 -- ---- surfaces
-
-no_fault : (input : List ℕ) (c : Chain) (n : ℕ) (g : Sides) (at : ℕ) (kind : Kind) → IsTextOf input c n g → IsFirstFault surface_table input at kind → ⊥
-no_fault input c n g at kind t f =
-    faultless_first surface_table input at kind (subst (IsFaultless surface_table) (sym t.text) (faultless_text c n g t.in_range)) f
-
-same_surface : (input : List ℕ) (c : Chain) (n : ℕ) (g : Sides) (d : Chain) (m : ℕ) (h : Sides) → IsTextOf input c n g → IsTextOf input d m h → SameSurface c n g d m h
-same_surface input c n g d m h t u = one_text c n g d m h t.in_range u.in_range (sym t.text ∙ u.text)
 
 flaw_along : (c : Chain) (n : ℕ) (g : Sides) (d : Chain) (m : ℕ) (h : Sides) (kind : FlawKind) (place : ℕ) → SameSurface c n g d m h
     → IsFirstFlaw c n g kind place → IsFirstFlaw d m h kind place
@@ -46,13 +45,16 @@ flaw_along c n g d m h kind place same f =
 -- what a status of `surface` comes of
 abbrev SurfaceCause : List ℕ → Status → Type 0
 SurfaceCause input s =
-    ((at : ℕ) × (kind : Kind) × (s ≡ Malformed at kind) × IsFirstFault surface_table input at kind)
-    ⊎ (((kind : FlawKind) × (place : ℕ) × (c : Chain) × (n : ℕ) × (g : Sides) × (s ≡ Rejected kind place) × IsTextOf input c n g × IsFirstFlaw c n g kind place)
-    ⊎ ((c : Chain) × (n : ℕ) × (g : Sides) × (s ≡ Done) × IsTextOf input c n g × IsFatgraph c n g))
+    ((at : ℕ) × (kind : Kind) × (s ≡ Malformed at kind) × IsFirstFault (plan_for input) input at kind)
+    ⊎ (((kind : FlawKind) × (place : ℕ) × (c : Chain) × (n : ℕ) × (g : Sides) × (s ≡ Rejected (Flaw kind place)) × Says input c n g × IsFirstFlaw c n g kind place)
+    ⊎ ((c : Chain) × (n : ℕ) × (g : Sides) × (s ≡ Done) × Says input c n g × IsFatgraph c n g))
 
 surface_cause : (input text : List ℕ) (s : Status) → SurfaceResponds input s text → SurfaceCause input s
 surface_cause input text (Malformed at kind) r = inl (at, kind, refl, r.0)
-surface_cause input text (Rejected kind place) r = inr (inl (kind, place, r.0, r.1, r.2, refl, r.3, r.4))
+surface_cause input text (Rejected (Flaw kind place)) r = inr (inl (kind, place, r.0, r.1, r.2, refl, r.3, r.4))
+surface_cause input text (Rejected Value) r = absurd r
+surface_cause input text (Rejected (Table flaw)) r = absurd r
+surface_cause input text (Rejected NotTight) r = absurd r
 surface_cause input text Done r = inr (inr (r.0, r.1, r.2, refl, r.4, r.5))
 surface_cause input text (Large what) r = absurd r
 surface_cause input text Usage r = absurd r
@@ -63,22 +65,61 @@ surface_cause input text Unbuilt r = absurd r
 
 one_surface_status : (input : List ℕ) (s s' : Status) → SurfaceCause input s → SurfaceCause input s' → s ≡ s'
 one_surface_status input s s' (inl a) (inl b) =
-    let same = first_fault-unique surface_table input a.0 b.0 a.1 b.1 a.3 b.3 in a.2 ∙ ap₂ Malformed same.0 same.1 ∙ sym b.2
-one_surface_status input s s' (inl a) (inr (inl b)) = absurd (no_fault input b.2 b.3 b.4 a.0 a.1 b.6 a.3)
-one_surface_status input s s' (inl a) (inr (inr b)) = absurd (no_fault input b.0 b.1 b.2 a.0 a.1 b.4 a.3)
-one_surface_status input s s' (inr (inl a)) (inl b) = absurd (no_fault input a.2 a.3 a.4 b.0 b.1 a.6 b.3)
+    let same = first_fault-unique (plan_for input) input a.0 b.0 a.1 b.1 a.3 b.3 in a.2 ∙ ap₂ Malformed same.0 same.1 ∙ sym b.2
+one_surface_status input s s' (inl a) (inr (inl b)) = absurd (says_no_fault input b.2 b.3 b.4 a.0 a.1 b.6 a.3)
+one_surface_status input s s' (inl a) (inr (inr b)) = absurd (says_no_fault input b.0 b.1 b.2 a.0 a.1 b.4 a.3)
+one_surface_status input s s' (inr (inl a)) (inl b) = absurd (says_no_fault input a.2 a.3 a.4 b.0 b.1 a.6 b.3)
 one_surface_status input s s' (inr (inl a)) (inr (inl b)) =
     let along = flaw_along a.2 a.3 a.4 b.2 b.3 b.4 a.0 a.1 (same_surface input a.2 a.3 a.4 b.2 b.3 b.4 a.6 b.6) a.7 in
     let same = first_flaw_alone b.2 b.3 b.4 a.0 b.0 a.1 b.1 along b.7 in
-    a.5 ∙ ap₂ Rejected same.0 same.1 ∙ sym b.5
+    a.5 ∙ ap₂ (λ (k : FlawKind) (p : ℕ). Rejected (Flaw k p)) same.0 same.1 ∙ sym b.5
 one_surface_status input s s' (inr (inl a)) (inr (inr b)) =
     let along = flaw_along a.2 a.3 a.4 b.0 b.1 b.2 a.0 a.1 (same_surface input a.2 a.3 a.4 b.0 b.1 b.2 a.6 b.4) a.7 in
     absurd (fatgraph_has_none b.0 b.1 b.2 b.5 a.0 a.1 along.here)
-one_surface_status input s s' (inr (inr a)) (inl b) = absurd (no_fault input a.0 a.1 a.2 b.0 b.1 a.4 b.3)
+one_surface_status input s s' (inr (inr a)) (inl b) = absurd (says_no_fault input a.0 a.1 a.2 b.0 b.1 a.4 b.3)
 one_surface_status input s s' (inr (inr a)) (inr (inl b)) =
     let along = flaw_along b.2 b.3 b.4 a.0 a.1 a.2 b.0 b.1 (same_surface input b.2 b.3 b.4 a.0 a.1 a.2 b.6 a.4) b.7 in
     absurd (fatgraph_has_none a.0 a.1 a.2 a.5 b.0 b.1 along.here)
 one_surface_status input s s' (inr (inr a)) (inr (inr b)) = a.3 ∙ sym b.3
+
+-- ---- certificates
+
+-- what a status of `check` comes of
+abbrev CheckCause : List ℕ → Status → Type 0
+CheckCause input s =
+    ((at : ℕ) × (kind : Kind) × (s ≡ Malformed at kind) × IsFirstFault certificate_plan input at kind)
+    ⊎ (((condition : Condition) × (v : Certificate) × (s ≡ Rejected condition) × IsCertificateText input v × IsFirstFailing v condition)
+    ⊎ ((v : Certificate) × (s ≡ Done) × IsCertificateText input v × AllHold v))
+
+check_cause : (input text : List ℕ) (s : Status) → CheckResponds input s text → CheckCause input s
+check_cause input text (Malformed at kind) r = inl (at, kind, refl, r.0)
+check_cause input text (Rejected condition) r = inr (inl (condition, r.0, refl, r.1, r.2))
+check_cause input text Done r = inr (inr (r.0, refl, r.1, r.2))
+check_cause input text (Large what) r = absurd r
+check_cause input text Usage r = absurd r
+check_cause input text ReadFault r = absurd r
+check_cause input text WriteFault r = absurd r
+check_cause input text Memory r = absurd r
+check_cause input text Unbuilt r = absurd r
+
+failing_along : (input : List ℕ) (v w : Certificate) (condition : Condition) → IsCertificateText input v → IsCertificateText input w
+    → IsFirstFailing v condition → IsFirstFailing w condition
+failing_along input v w condition t u f = subst (λ (x : Certificate). IsFirstFailing x condition) (same_certificate input v w t u) f
+
+one_check_status : (input : List ℕ) (s s' : Status) → CheckCause input s → CheckCause input s' → s ≡ s'
+one_check_status input s s' (inl a) (inl b) =
+    let same = first_fault-unique certificate_plan input a.0 b.0 a.1 b.1 a.3 b.3 in a.2 ∙ ap₂ Malformed same.0 same.1 ∙ sym b.2
+one_check_status input s s' (inl a) (inr (inl b)) = absurd (faultless_first certificate_plan input a.0 a.1 (certificate_faultless input b.1 b.3) a.3)
+one_check_status input s s' (inl a) (inr (inr b)) = absurd (faultless_first certificate_plan input a.0 a.1 (certificate_faultless input b.0 b.2) a.3)
+one_check_status input s s' (inr (inl a)) (inl b) = absurd (faultless_first certificate_plan input b.0 b.1 (certificate_faultless input a.1 a.3) b.3)
+one_check_status input s s' (inr (inl a)) (inr (inl b)) =
+    a.2 ∙ ap Rejected (one_failing b.1 a.0 b.0 (failing_along input a.1 b.1 a.0 a.3 b.3 a.4) b.4) ∙ sym b.2
+one_check_status input s s' (inr (inl a)) (inr (inr b)) =
+    absurd (none_failing b.0 a.0 (failing_along input a.1 b.0 a.0 a.3 b.2 a.4) b.3)
+one_check_status input s s' (inr (inr a)) (inl b) = absurd (faultless_first certificate_plan input b.0 b.1 (certificate_faultless input a.0 a.2) b.3)
+one_check_status input s s' (inr (inr a)) (inr (inl b)) =
+    absurd (none_failing a.0 b.0 (failing_along input b.1 a.0 b.0 b.3 a.2 b.4) a.3)
+one_check_status input s s' (inr (inr a)) (inr (inr b)) = a.1 ∙ sym b.1
 
 -- ---- chains
 
@@ -120,7 +161,7 @@ scl_cause input text (Large (Positions n)) r = inr (r.0, r.1, inr (inl (n, refl,
 scl_cause input text Done r = inr (r.0, r.1, inr (inr (inl (r.3.0, r.3.1, refl, r.2, r.3.2))))
 scl_cause input text Unbuilt r = inr (r.0, r.1, inr (inr (inr (refl, r.2, r.3.0))))
 scl_cause input text Usage r = absurd r
-scl_cause input text (Rejected kind place) r = absurd r
+scl_cause input text (Rejected condition) r = absurd r
 scl_cause input text ReadFault r = absurd r
 scl_cause input text WriteFault r = absurd r
 scl_cause input text Memory r = absurd r
@@ -154,6 +195,7 @@ one_scl_status input s s' (inr a) (inr b) =
 
 one_response : (c : Command) (input text text' : List ℕ) (s s' : Status) → Responds c input s text → Responds c input s' text' → s ≡ s'
 one_response Surface input text text' s s' r r' = one_surface_status input s s' (surface_cause input text s r) (surface_cause input text' s' r')
+one_response Check input text text' s s' r r' = one_check_status input s s' (check_cause input text s r) (check_cause input text' s' r')
 one_response Scl input text text' s s' r r' = one_scl_status input s s' (scl_cause input text s r) (scl_cause input text' s' r')
 
 one_of_command : (c : Command) (input text text' : List ℕ) (s s' : Status) → AnswersTo c input s text → AnswersTo c input s' text' → s ≡ s'
@@ -162,28 +204,46 @@ one_of_command c input text text' s s' (inl a) (inr b) = absurd (omega (arith, a
 one_of_command c input text text' s s' (inr a) (inl b) = absurd (omega (arith, a.0, b.0))
 one_of_command c input text text' s s' (inr a) (inr b) = one_response c input text text' s s' a.1 b.1
 
-one_command : (words : List (List ℕ)) (c d : Command) → IsForm c words → IsForm d words → c ≡ d
+pub one_command : (words : List (List ℕ)) (c d : Command) → IsForm c words → IsForm d words → c ≡ d
 one_command words Surface Surface f g = refl
+one_command words Surface Check f g = let sizes : 7 ≡ 5 = ap (λ (w : List (List ℕ)). length (get_or w 0 [])) (sym f ∙ g) in absurd (omega (arith, sizes))
 one_command words Surface Scl f g = let sizes : 7 ≡ 3 = ap (λ (w : List (List ℕ)). length (get_or w 0 [])) (sym f ∙ g) in absurd (omega (arith, sizes))
+one_command words Check Surface f g = let sizes : 5 ≡ 7 = ap (λ (w : List (List ℕ)). length (get_or w 0 [])) (sym f ∙ g) in absurd (omega (arith, sizes))
+one_command words Check Check f g = refl
+one_command words Check Scl f g = let sizes : 5 ≡ 3 = ap (λ (w : List (List ℕ)). length (get_or w 0 [])) (sym f ∙ g) in absurd (omega (arith, sizes))
 one_command words Scl Surface f g = let sizes : 3 ≡ 7 = ap (λ (w : List (List ℕ)). length (get_or w 0 [])) (sym f ∙ g) in absurd (omega (arith, sizes))
+one_command words Scl Check f g = let sizes : 3 ≡ 5 = ap (λ (w : List (List ℕ)). length (get_or w 0 [])) (sym f ∙ g) in absurd (omega (arith, sizes))
 one_command words Scl Scl f g = refl
 
 pub one_answer : (words : List (List ℕ)) (input text text' : List ℕ) (s s' : Status) → Answers words input s text → Answers words input s' text' → s ≡ s'
 one_answer words input text text' s s' a b =
     one_of_command b.0 input text text' s s' (subst (λ (c : Command). AnswersTo c input s text) (one_command words a.0 b.0 a.1 b.1) a.2) b.2
 
+pub one_text_answer : (words : List (List ℕ)) (input text text' : List ℕ) (s s' : Status) → Answers words input s text → Answers words input s' text' → text ≡ text'
+one_text_answer words input text text' s s' a b =
+    let same : AnswersTo b.0 input s text = subst (λ (c : Command). AnswersTo c input s text) (one_command words a.0 b.0 a.1 b.1) a.2 in
+    one_text b.0 input text text' s' (subst (λ (t : Status). AnswersTo b.0 input t text) (one_of_command b.0 input text text' s s' same b.2) same) b.2
+
 -- ---- so a call answers that, unless something failed
 
+-- the answer came, and its text was taken
+abbrev Comes : Status → Option (List ℕ) → Option (List ℕ) → Status → List ℕ → Type 0
+Comes s old new status text = (s ≡ status) × Took old new text
+
 one_delivered : (words : List (List ℕ)) (input : List ℕ) (c : Command) (old new : Option (List ℕ)) (s : Status) → IsForm c words → Delivers c (Some input) old new s
-    → (status : Status) (text : List ℕ) → Answers words input status text → (s ≡ status) ⊎ IsExcused s
-one_delivered words input c old new s f d status text a = inl (one_answer words input d.0 text s status (c, f, d.1) a)
+    → (status : Status) (text : List ℕ) → Answers words input status text → Comes s old new status text ⊎ IsExcused s
+one_delivered words input c old new s f d status text a =
+    inl (
+      one_answer words input d.0 text s status (c, f, d.1) a,
+      subst (Took old new) (one_text_answer words input d.0 text s status (c, f, d.1) a) d.2,
+    )
 
 excused : (words : List (List ℕ)) (input : List ℕ) (c : Command) (ReadRose WriteRose : Type 0) (old new : Option (List ℕ)) (s : Status) → IsForm c words
-    → MayAnswer c (Some input) ReadRose WriteRose old new s → (status : Status) (text : List ℕ) → Answers words input status text → (s ≡ status) ⊎ IsExcused s
+    → MayAnswer c (Some input) ReadRose WriteRose old new s → (status : Status) (text : List ℕ) → Answers words input status text → Comes s old new status text ⊎ IsExcused s
 excused words input c R W old new Done f m = one_delivered words input c old new Done f m
 excused words input c R W old new (Malformed at kind) f m = one_delivered words input c old new (Malformed at kind) f m.0
 excused words input c R W old new (Large what) f m = one_delivered words input c old new (Large what) f m.0
-excused words input c R W old new (Rejected kind place) f m = one_delivered words input c old new (Rejected kind place) f m
+excused words input c R W old new (Rejected condition) f m = one_delivered words input c old new (Rejected condition) f m
 excused words input c R W old new Unbuilt f m = one_delivered words input c old new Unbuilt f m.0
 excused words input c R W old new Usage f m = absurd m
 excused words input c R W old new ReadFault f m = λ status text a. inr tt
@@ -192,7 +252,7 @@ excused words input c R W old new Memory f m = λ status text a. inr tt
 
 pub complete : (words : List (List ℕ)) (left left' : Option (List ℕ)) (faults faults' : ℕ) (ReadRose WriteRose : Type 0) (old new : Option (List ℕ)) (s : Status)
     → IsUnasked words left left' faults faults' old new s ⊎ IsAsked words left left' ReadRose WriteRose old new s
-    → IfSome left (λ input. (status : Status) (text : List ℕ) → Answers words input status text → (s ≡ status) ⊎ IsExcused s)
+    → IfSome left (λ input. (status : Status) (text : List ℕ) → Answers words input status text → Comes s old new status text ⊎ IsExcused s)
 complete words None left' n n' R W old new s h = tt
 complete words (Some input) left' n n' R W old new s (inl h) = λ status text a. absurd (h.none a.0 a.1)
 complete words (Some input) left' n n' R W old new s (inr h) = excused words input h.0 R W old new s h.1 h.2

@@ -1,17 +1,16 @@
 -- The text of a surface's report, and what `surface` and `scl` answer.
-use Rattle.std.proofs.Common.{◌≡◌, ℕ, ◌*◌, List, [], ◌∷◌, ◌++◌, codes, ℤ, pos, ◌-ℤ◌, ap₂, ◌∙◌, subst, refl}
+use Rattle.std.proofs.Common.{◌≡◌, ℕ, ◌*◌, List, [], ◌++◌, codes, ℤ, pos, ◌-ℤ◌, ap₂, ◌∙◌, subst, refl}
 use Rattle.sc_whole.specs.Spelling.{spelling}
 use Rattle.sc_theory.specs.Chains.{Chain}
 use Rattle.sc_theory.specs.Fatgraphs.{Sides, IsFatgraph, vertices, edges, cost}
 use Rattle.sc_fraction.specs.declared.frac.Frac.{Frac}
 use Rattle.sc_fraction.specs.Frac.{IsQuotient, frac_text}
-use Rattle.sc_text.specs.Surfaces.{surface_text, IsSurfaceInRange}
 use Rattle.sc_fatgraph.specs.Surfaces.{Surface, surface}
 use Rattle.sc_chain.specs.declared.lines.RawLine.{RawLine}
 use Rattle.sc_chain.specs.ChainText.{IsChainText}
 use Rattle.sc_reduce.specs.Lines.{chain_of, IsWithin}
 use Rattle.sc_app.specs.Notes.{line}
-use Rattle.sc_app.specs.Surface.{SurfaceResponds, euler, report, fraction_label}
+use Rattle.sc_app.specs.Surface.{SurfaceResponds, Says, euler, report, fraction_label}
 use Rattle.sc_app.specs.Scl.{SclResponds, IsValueOf}
 use Rattle.sc_app.specs.declared.status.Status.{Status}
 use Rattle.sc_app.specs.declared.status.Status.TheVariants.{Done, Usage, Malformed, Large, ReadFault, WriteFault, Memory, Rejected, Unbuilt}
@@ -38,12 +37,12 @@ of_cost g v e n m f is_v is_e is_m h =
     (subst (λ (k : ℕ). IsQuotient (pos k -ℤ pos (vertices g)) (pos (2 * m)) f) is_e
     (subst (λ (k : ℕ). IsQuotient (pos e -ℤ pos k) (pos (2 * m)) f) is_v h))
 
-pub reported : (input : List ℕ) (c : Chain) (n : ℕ) (g : Sides) (fatgraph : Surface) (items : List ℕ) → input ≡ surface_text c n g → IsSurfaceInRange c n g
+pub reported : (input : List ℕ) (c : Chain) (n : ℕ) (g : Sides) (fatgraph : Surface) (items : List ℕ) → Says input c n g
     → IsFatgraph c n g → fatgraph ≡ surface c n g
     → ((f : Frac) × IsQuotient (cost fatgraph.sides) (pos (2 * fatgraph.copies)) f × (items ≡ report fatgraph.sides f)) → SurfaceResponds input Done items
-reported input c n g fatgraph items text range is_fatgraph same told =
+reported input c n g fatgraph items says is_fatgraph same told =
     let own = subst (λ (s : Surface). (f : Frac) × IsQuotient (cost s.sides) (pos (2 * s.copies)) f × (items ≡ report s.sides f)) same told in
-    (c, n, g, own.0, record { text = text; in_range = range }, is_fatgraph, own.1, own.2)
+    (c, n, g, own.0, says, is_fatgraph, own.1, own.2)
 
 pub valued : (input : List ℕ) (lines : List RawLine) (c : Chain) → IsChainText input lines → c ≡ chain_of lines → IsWithin (chain_of lines)
     → (s : Status) (text : List ℕ) → IsValueOf c s text → SclResponds input s text
@@ -52,7 +51,7 @@ valued input lines c read same within Unbuilt text v = (lines, read, within, sub
 valued input lines c read same within Usage text v = absurd v
 valued input lines c read same within (Malformed at kind) text v = absurd v
 valued input lines c read same within (Large what) text v = absurd v
-valued input lines c read same within (Rejected kind place) text v = absurd v
+valued input lines c read same within (Rejected condition) text v = absurd v
 valued input lines c read same within ReadFault text v = absurd v
 valued input lines c read same within WriteFault text v = absurd v
 valued input lines c read same within Memory text v = absurd v

@@ -2,7 +2,7 @@
 use Rattle.std.proofs.Common.{◌≡◌, ℕ, ◌≤◌, ◌⊎◌, inl, inr, List, [], Option, None, Some, IfSome, length, subst, sym}
 use Rattle.sc_outside.specs.Told.{Took, TookPart}
 use Rattle.sc_app.specs.declared.command.Command.{Command}
-use Rattle.sc_app.specs.declared.command.Command.TheVariants.{Surface, Scl}
+use Rattle.sc_app.specs.declared.command.Command.TheVariants.{Surface, Check, Scl}
 use Rattle.sc_app.specs.declared.status.Status.{Status}
 use Rattle.sc_app.specs.declared.status.Status.TheVariants.{Done, Usage, Malformed, Large, ReadFault, WriteFault, Memory, Rejected, Unbuilt}
 use Rattle.sc_app.specs.declared.status.What.TheVariants.{Bytes, Words, Positions}
@@ -33,25 +33,33 @@ whole : (c : Command) (left : Option (List ℕ)) (ReadRose WriteRose : Type 0) (
 whole c left R W old new input text Done same within resp took = delivers c left old new input text Done same within resp took
 whole Surface left R W old new input text (Malformed at kind) same within resp took =
     (delivers Surface left old new input text (Malformed at kind) same within resp took, nothing old new text resp.1 took)
+whole Check left R W old new input text (Malformed at kind) same within resp took =
+    (delivers Check left old new input text (Malformed at kind) same within resp took, nothing old new text resp.1 took)
 whole Scl left R W old new input text (Malformed at kind) same within resp took =
     (delivers Scl left old new input text (Malformed at kind) same within resp took, nothing old new text resp.1 took)
 whole Surface left R W old new input text (Large what) same within resp took = absurd resp
+whole Check left R W old new input text (Large what) same within resp took = absurd resp
 whole Scl left R W old new input text (Large Bytes) same within resp took = absurd resp
 whole Scl left R W old new input text (Large (Words n)) same within resp took =
     (delivers Scl left old new input text (Large (Words n)) same within resp took, nothing old new text resp.3 took)
 whole Scl left R W old new input text (Large (Positions n)) same within resp took =
     (delivers Scl left old new input text (Large (Positions n)) same within resp took, nothing old new text resp.3 took)
-whole c left R W old new input text (Rejected kind place) same within resp took = delivers c left old new input text (Rejected kind place) same within resp took
+whole c left R W old new input text (Rejected condition) same within resp took = delivers c left old new input text (Rejected condition) same within resp took
 whole Surface left R W old new input text Unbuilt same within resp took = absurd resp
+whole Check left R W old new input text Unbuilt same within resp took = absurd resp
 whole Scl left R W old new input text Unbuilt same within resp took =
     (delivers Scl left old new input text Unbuilt same within resp took, nothing old new text resp.3.1 took)
 whole Surface left R W old new input text Usage same within resp took = absurd resp
+whole Check left R W old new input text Usage same within resp took = absurd resp
 whole Scl left R W old new input text Usage same within resp took = absurd resp
 whole Surface left R W old new input text ReadFault same within resp took = absurd resp
+whole Check left R W old new input text ReadFault same within resp took = absurd resp
 whole Scl left R W old new input text ReadFault same within resp took = absurd resp
 whole Surface left R W old new input text WriteFault same within resp took = absurd resp
+whole Check left R W old new input text WriteFault same within resp took = absurd resp
 whole Scl left R W old new input text WriteFault same within resp took = absurd resp
 whole Surface left R W old new input text Memory same within resp took = absurd resp
+whole Check left R W old new input text Memory same within resp took = absurd resp
 whole Scl left R W old new input text Memory same within resp took = absurd resp
 
 pub served : (c : Command) (left : Option (List ℕ)) (ReadRose WriteRose : Type 0) (old new : Option (List ℕ)) (input text : List ℕ) (s r : Status)
@@ -74,7 +82,7 @@ decided : (c : Command) (left : Option (List ℕ)) (ReadRose WriteRose : Type 0)
 decided c left R W old new Done d m = m
 decided c left R W old new (Malformed at kind) d m = m.0
 decided c left R W old new (Large what) d m = m.0
-decided c left R W old new (Rejected kind place) d m = m
+decided c left R W old new (Rejected condition) d m = m
 decided c left R W old new Unbuilt d m = m.0
 decided c left R W old new Usage d m = absurd d
 decided c left R W old new ReadFault d m = absurd d
@@ -94,16 +102,19 @@ read_whole : (c : Command) (left left' : Option (List ℕ)) (input text : List �
 read_whole c left left' input text Done whole resp = whole
 read_whole c left left' input text (Malformed at kind) whole resp = whole
 read_whole Surface left left' input text (Large Bytes) whole resp = absurd resp
+read_whole Check left left' input text (Large Bytes) whole resp = absurd resp
 read_whole Scl left left' input text (Large Bytes) whole resp = absurd resp
 read_whole c left left' input text (Large (Words n)) whole resp = whole
 read_whole c left left' input text (Large (Positions n)) whole resp = whole
-read_whole c left left' input text (Rejected kind place) whole resp = whole
+read_whole c left left' input text (Rejected condition) whole resp = whole
 read_whole c left left' input text Unbuilt whole resp = whole
 read_whole Surface left left' input text Usage whole resp = absurd resp
+read_whole Check left left' input text Usage whole resp = absurd resp
 read_whole Scl left left' input text Usage whole resp = absurd resp
 read_whole c left left' input text ReadFault whole resp = tt
 read_whole c left left' input text WriteFault whole resp = whole
 read_whole Surface left left' input text Memory whole resp = absurd resp
+read_whole Check left left' input text Memory whole resp = absurd resp
 read_whole Scl left left' input text Memory whole resp = absurd resp
 
 pub served_read : (c : Command) (left left' : Option (List ℕ)) (WriteRose : Type 0) (old new : Option (List ℕ)) (input text : List ℕ) (s r : Status) → ReadWhole left left'

@@ -1,5 +1,5 @@
 -- A part of a text that a sink took.
-use Rattle.std.proofs.Common.{ℕ, ◌<◌, ◌≤◌, Option, List, ◌++◌, length, subst, sym, arith, length-append}
+use Rattle.std.proofs.Common.{ℕ, ◌≤◌, Option, List, ◌++◌, length, subst, sym, arith, length-append}
 use Rattle.std.proofs.lemmas.List.{take-append-le}
 use Rattle.sc_outside.specs.Told.{Took, TookPart}
 

@@ -2,23 +2,26 @@
 use Rattle.std.specs.Prelude.{◌≡◌, ℕ, ◌+◌, ◌<◌, ◌≤◌, ◌⊎◌, List, [], length, Option, Some, IfSome}
 use Rattle.sc_outside.specs.Told.{Delivered, Took, TookPart}
 use Rattle.sc_app.specs.declared.command.Command.{Command}
-use Rattle.sc_app.specs.declared.command.Command.TheVariants.{Surface, Scl}
+use Rattle.sc_app.specs.declared.command.Command.TheVariants.{Surface, Check, Scl}
 use Rattle.sc_app.specs.declared.status.Status.{Status}
 use Rattle.sc_app.specs.declared.status.Status.TheVariants.{Done, Usage, Malformed, Large, ReadFault, WriteFault, Memory, Rejected, Unbuilt}
 use Rattle.sc_app.specs.declared.status.What.TheVariants.{Bytes, Words, Positions}
-use Rattle.sc_app.specs.declared.limits.TheConstants.{MAX_SURFACE_BYTES, MAX_CHAIN_BYTES}
+use Rattle.sc_app.specs.declared.limits.TheConstants.{MAX_TEXT_BYTES, MAX_CHAIN_BYTES}
 use Rattle.sc_app.specs.Forms.{IsForm}
 use Rattle.sc_app.specs.Surface.{SurfaceResponds}
+use Rattle.sc_app.specs.Check.{CheckResponds}
 use Rattle.sc_app.specs.Scl.{SclResponds}
 
 -- the most bytes that a command reads
 abbrev pub limit_of : Command → ℕ
-limit_of Surface = MAX_SURFACE_BYTES
+limit_of Surface = MAX_TEXT_BYTES
+limit_of Check = MAX_TEXT_BYTES
 limit_of Scl = MAX_CHAIN_BYTES
 
 -- what a command answers to an input that isn't over its limit: the status, and the text for `out`
 abbrev pub Responds : Command → List ℕ → Status → List ℕ → Type 0
 Responds Surface input status text = SurfaceResponds input status text
+Responds Check input status text = CheckResponds input status text
 Responds Scl input status text = SclResponds input status text
 
 -- what a command answers to an input
@@ -36,7 +39,7 @@ abbrev pub IsDecided : Status → Type 0
 IsDecided Done = Unit {0}
 IsDecided (Malformed line kind) = Unit {0}
 IsDecided (Large what) = Unit {0}
-IsDecided (Rejected kind place) = Unit {0}
+IsDecided (Rejected condition) = Unit {0}
 IsDecided Unbuilt = Unit {0}
 IsDecided Usage = ⊥
 IsDecided ReadFault = ⊥
@@ -52,7 +55,7 @@ IsQuiet Usage = Unit {0}
 IsQuiet ReadFault = Unit {0}
 IsQuiet WriteFault = ⊥
 IsQuiet Memory = Unit {0}
-IsQuiet (Rejected kind place) = ⊥
+IsQuiet (Rejected condition) = ⊥
 IsQuiet Unbuilt = Unit {0}
 
 -- where the input is told, this is its answer, and `out` took the text
@@ -76,7 +79,7 @@ MayAnswer c input ReadRose WriteRose old new Usage = ⊥
 MayAnswer c input ReadRose WriteRose old new ReadFault = ReadRose × Took old new []
 MayAnswer c input ReadRose WriteRose old new WriteFault = WriteRose × Breaks c input old new
 MayAnswer c input ReadRose WriteRose old new Memory = Took old new []
-MayAnswer c input ReadRose WriteRose old new (Rejected kind place) = Delivers c input old new (Rejected kind place)
+MayAnswer c input ReadRose WriteRose old new (Rejected condition) = Delivers c input old new (Rejected condition)
 MayAnswer c input ReadRose WriteRose old new Unbuilt = Delivers c input old new Unbuilt × Took old new []
 
 -- ---- what is left of the input
@@ -100,7 +103,7 @@ IsReadToTheEnd (Malformed line kind) = Unit {0}
 IsReadToTheEnd (Large Bytes) = ⊥
 IsReadToTheEnd (Large (Words count)) = Unit {0}
 IsReadToTheEnd (Large (Positions count)) = Unit {0}
-IsReadToTheEnd (Rejected kind place) = Unit {0}
+IsReadToTheEnd (Rejected condition) = Unit {0}
 IsReadToTheEnd Unbuilt = Unit {0}
 IsReadToTheEnd WriteFault = Unit {0}
 IsReadToTheEnd Usage = ⊥
@@ -115,7 +118,7 @@ MayRead c left left' (Malformed line kind) = ReadWhole left left'
 MayRead c left left' (Large Bytes) = ReadPastLimit c left left'
 MayRead c left left' (Large (Words count)) = ReadWhole left left'
 MayRead c left left' (Large (Positions count)) = ReadWhole left left'
-MayRead c left left' (Rejected kind place) = ReadWhole left left'
+MayRead c left left' (Rejected condition) = ReadWhole left left'
 MayRead c left left' Unbuilt = ReadWhole left left'
 MayRead c left left' WriteFault = ReadWhole left left'
 MayRead c left left' Usage = ⊥
@@ -150,7 +153,7 @@ abbrev pub IsExcused : Status → Type 0
 IsExcused Done = ⊥
 IsExcused (Malformed line kind) = ⊥
 IsExcused (Large what) = ⊥
-IsExcused (Rejected kind place) = ⊥
+IsExcused (Rejected condition) = ⊥
 IsExcused Unbuilt = ⊥
 IsExcused Usage = ⊥
 IsExcused ReadFault = Unit {0}

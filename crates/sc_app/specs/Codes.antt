@@ -12,5 +12,5 @@ code_of (Large what) = 4
 code_of ReadFault = 8
 code_of WriteFault = 9
 code_of Memory = 10
-code_of (Rejected kind place) = 11
+code_of (Rejected condition) = 11
 code_of Unbuilt = 12

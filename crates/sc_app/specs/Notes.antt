@@ -13,7 +13,7 @@ line text = text ++ 10 ∷ []
 
 -- the forms of the command line
 abbrev pub usage : List ℕ
-usage = codes "surface | scl"
+usage = codes "surface | check | scl"
 
 -- the word for a kind of fault
 abbrev pub name_of : Kind → List ℕ
@@ -40,7 +40,7 @@ note_of (Large (Positions count)) = line (codes "scallop: large positions " ++ n
 note_of ReadFault = line (codes "scallop: read fault")
 note_of WriteFault = line (codes "scallop: write fault")
 note_of Memory = line (codes "scallop: memory")
-note_of (Rejected kind place) = line (codes "scallop: rejected")
+note_of (Rejected condition) = line (codes "scallop: rejected")
 note_of Unbuilt = line (codes "scallop: unbuilt")
 
 -- the digits of a number, where there is one

@@ -7,8 +7,10 @@ ghost use Rattle.sc_app.specs.declared.command.Command.{Command as AnyCommand};
 /// What the words of the command line ask for.
 #[derive(Clone, Copy, Debug, PartialEq, Eq)]
 pub enum Command {
-    /// `surface`: reads a surface and writes its counts.
+    /// `surface`: reads a surface, or that of a certificate, and writes its counts.
     Surface,
+    /// `check`: reads a certificate and writes its value where the surface is least.
+    Check,
     /// `scl`: reads a chain and writes its stable commutator length.
     Scl,
 }
@@ -20,6 +22,7 @@ fn command_named(word: &str) -> Option<Command>
 {
     match word {
         "surface" => Some(Command::Surface),
+        "check" => Some(Command::Check),
         "scl" => Some(Command::Scl),
         _ => None,
     }

@@ -2,10 +2,13 @@
 #![tactic(auto)]
 
 mod answer;
+mod check;
 mod command;
 pub mod limits;
 mod note;
+mod printing;
 mod program;
+mod rejection;
 mod scl;
 mod status;
 mod surface;

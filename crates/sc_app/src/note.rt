@@ -51,7 +51,7 @@ fn note_of_status(status: &Status) -> Note
 {
     match status {
         Status::Done => plain(b""),
-        Status::Usage => plain(b"scallop: usage: surface | scl\n"),
+        Status::Usage => plain(b"scallop: usage: surface | check | scl\n"),
         Status::Malformed { line, kind } => Note {
             before: b"scallop: malformed line ",
             number: Some(*line),
@@ -71,7 +71,7 @@ fn note_of_status(status: &Status) -> Note
         Status::ReadFault => plain(b"scallop: read fault\n"),
         Status::WriteFault => plain(b"scallop: write fault\n"),
         Status::Memory => plain(b"scallop: memory\n"),
-        Status::Rejected { .. } => plain(b"scallop: rejected\n"),
+        Status::Rejected(_) => plain(b"scallop: rejected\n"),
         Status::Unbuilt => plain(b"scallop: unbuilt\n"),
     }
 }

@@ -6,12 +6,15 @@ ghost use Rattle.sc_outside.specs.Told.{Took, TookPart};
 ghost use Rattle.sc_app.specs.Forms.{IsForm, bytes_of};
 ghost use Rattle.sc_app.specs.Notes.{note_of};
 ghost use Rattle.sc_app.specs.Answers.{limit_of, Responds, Answers, HasNoForm, IsDecided, IsQuiet, MayAnswer, MayRead, ReadWhole, ReadPastLimit, ReadWithinLimit, IsReadToTheEnd, IsAsked, IsUnasked, IsExcused, TookUpTo};
+ghost use Rattle.sc_app.specs.Check.{ShowsLeast};
 ghost use Rattle.sc_app.specs.declared.command.Command.{Command as AnyCommand};
+ghost use Rattle.sc_app.specs.declared.command.Command.TheVariants as commands;
 ghost use Rattle.sc_app.specs.declared.status.Status.{Status as AnyStatus};
 
 use crate::answer::Answer;
+use crate::check::answer_check;
 use crate::command::{Command, command_of};
-use crate::limits::{MAX_CHAIN_BYTES, MAX_SURFACE_BYTES};
+use crate::limits::{MAX_CHAIN_BYTES, MAX_TEXT_BYTES};
 use crate::note::write_note;
 use crate::scl::answer_scl;
 use crate::status::{Status, What};
@@ -23,7 +26,7 @@ fn limit_of_command(command: Command) -> usize
     ensures { result ≡ limit_of command }
 {
     match command {
-        Command::Surface => MAX_SURFACE_BYTES,
+        Command::Surface | Command::Check => MAX_TEXT_BYTES,
         Command::Scl => MAX_CHAIN_BYTES,
     }
 }
@@ -35,6 +38,7 @@ fn respond(alloc: Global, command: Command, input: &[u8]) -> Result<Answer, Allo
 {
     match command {
         Command::Surface => answer_surface(alloc, input),
+        Command::Check => answer_check(alloc, input),
         Command::Scl => answer_scl(alloc, input),
     }
 }
@@ -120,7 +124,11 @@ pub fn run<S: Source, O: Sink, E: Sink>(
         × Answers (bytes_of words.now.items) input result text × Took (O.taken out.old) (O.taken out.new) text) }
     // The answer to the input is what comes, unless a stream fails or memory runs out. (There is one: `an_input_has_one_answer`.)
     ensures complete { IfSome (S.left source.old) (λ input. (status : AnyStatus) (text : List ℕ)
-        → Answers (bytes_of words.now.items) input status text → (result ≡ status) ⊎ IsExcused result) }
+        → Answers (bytes_of words.now.items) input status text
+        → ((result ≡ status) × Took (O.taken out.old) (O.taken out.new) text) ⊎ IsExcused result) }
+    // Where `check` is done, `out` took the value of a certificate whose surface is least over its chain.
+    ensures least { result ≡ Status.Done → IsForm commands.Check (bytes_of words.now.items) → IfSome (S.left source.old)
+        (λ input. (text : List ℕ) × ShowsLeast input text × Took (O.taken out.old) (O.taken out.new) text) }
     // After a fault of `out` it has taken a part of the text of the answer.
     ensures broken { result ≡ Status.WriteFault → IfSome (S.left source.old) (λ input. (status : AnyStatus) × (text : List ℕ)
         × Answers (bytes_of words.now.items) input status text × TookPart (O.taken out.old) (O.taken out.new) text) }
@@ -137,8 +145,10 @@ pub fn run<S: Source, O: Sink, E: Sink>(
     status
 }
 
-/// No input has two answers: the same words and the same input give one status.
+/// No input has two answers: the same words and the same input give one status and one text.
 pub fn an_input_has_one_answer()
-    ensures { (words : List (List ℕ)) (input text other : List ℕ) (status elsewise : AnyStatus) → Answers words input status text
+    ensures status { (words : List (List ℕ)) (input text other : List ℕ) (status elsewise : AnyStatus) → Answers words input status text
         → Answers words input elsewise other → status ≡ elsewise }
+    ensures text { (words : List (List ℕ)) (input text other : List ℕ) (status elsewise : AnyStatus) → Answers words input status text
+        → Answers words input elsewise other → text ≡ other }
 {}

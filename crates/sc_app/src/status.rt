@@ -4,7 +4,7 @@ ghost use Rattle.std.specs.Prelude.{◌≡◌};
 ghost use Rattle.sc_app.specs.Codes.{code_of};
 
 use sc_chain::Kind;
-use sc_fatgraph::FlawKind;
+use sc_prices::Condition;
 
 /// What of the input is over its limit.
 #[derive(Clone, Copy, Debug, PartialEq, Eq)]
@@ -34,8 +34,9 @@ pub enum Status {
     WriteFault,
     /// There was no memory.
     Memory,
-    /// The surface isn't a labelled fatgraph: its first flaw, and the side, or for `Count` the word, where it is.
-    Rejected { kind: FlawKind, place: u32 },
+    /// The surface isn't a labelled fatgraph, or the certificate doesn't show that it is least: the first condition that
+    /// fails.
+    Rejected(Condition),
     /// The chain is balanced, and what computes its value isn't built yet.
     Unbuilt,
 }
@@ -53,7 +54,7 @@ impl Status {
             Status::ReadFault => 8,
             Status::WriteFault => 9,
             Status::Memory => 10,
-            Status::Rejected { .. } => 11,
+            Status::Rejected(_) => 11,
             Status::Unbuilt => 12,
         }
     }

@@ -1,29 +1,22 @@
 //! The command `surface`.
 
-ghost use Rattle.std.specs.Prelude.{◌≡◌, ◌+◌, ◌*◌, ◌++◌, ◌∷◌, [], pos, IfOk, OnOk};
-ghost use Rattle.sc_whole.specs.Spelling.{spelling};
+ghost use Rattle.std.specs.Prelude.{◌≡◌, ◌*◌, ◌++◌, pos, IfOk, IfErr, OnOk};
 ghost use Rattle.sc_theory.specs.Fatgraphs.{cost};
 ghost use Rattle.sc_fraction.specs.declared.frac.Frac.{Frac as Fraction};
 ghost use Rattle.sc_fraction.specs.Frac.{IsQuotient, frac_text};
+ghost use Rattle.sc_text.specs.Faults.{IsFaultOf};
 ghost use Rattle.sc_app.specs.Notes.{line};
-ghost use Rattle.sc_app.specs.Surface.{SurfaceResponds, fraction_label, flaw_label, report, rejection};
+ghost use Rattle.sc_app.specs.Surface.{SurfaceResponds, Says, is_headed_as_certificate, plan_for, fraction_label, report};
 
 use crate::answer::Answer;
+use crate::printing::append_number_line;
+use crate::rejection::rejected;
 use crate::status::Status;
 use sc_chain::TextFault;
-use sc_fatgraph::{Fatgraph, FlawKind, SurfaceFault, SurfaceText, fraction, read_surface};
+use sc_fatgraph::{Fatgraph, SurfaceFault, SurfaceText, fraction, read_surface};
 use sc_fraction::Frac;
-use sc_whole::print_decimal;
+use sc_prices::{Certificate, Condition};
 use std::alloc::{AllocError, Global};
-
-fn append_number_line(out: &mut Vec<u8>, label: &[u8], number: i128) -> Result<(), AllocError>
-    ensures { OnOk result (out.new.items ≡ out.old.items ++ line (label.now ++ spelling number)) }
-{
-    out.extend_from_slice(label)?;
-    print_decimal(number, out)?;
-    out.push(b'\n')?;
-    Ok(())
-}
 
 fn append_fraction_line(out: &mut Vec<u8>, fraction: &Frac) -> Result<(), AllocError>
     ensures { OnOk result (out.new.items ≡ out.old.items ++ line (fraction_label ++ frac_text fraction.now)) }
@@ -50,33 +43,35 @@ fn report_text(alloc: Global, fatgraph: &Fatgraph) -> Result<Vec<u8>, AllocError
     Ok(text)
 }
 
-fn rejection_label(kind: FlawKind) -> &'static [u8]
-    ensures { result.now ≡ flaw_label kind }
+/// Whether the first line, with its line feed, is that of a certificate.
+fn is_headed_as_certificate(input: &[u8]) -> bool
+    ensures { result ≡ is_headed_as_certificate input.now }
 {
-    match kind {
-        FlawKind::Range => b"rejected range ",
-        FlawKind::Mate => b"rejected mate ",
-        FlawKind::Letter => b"rejected letter ",
-        FlawKind::Next => b"rejected next ",
-        FlawKind::Label => b"rejected label ",
-        FlawKind::Count => b"rejected count ",
+    input.starts_with(b"scallop certificate 1\n")
+}
+
+/// The surface that the input says, as its text or in a certificate.
+fn read_said(alloc: Global, input: &[u8]) -> Result<SurfaceText, TextFault>
+    ensures says { IfOk result (λ said. Says input.now said.chain said.n said.sides) }
+    ensures malformed { IfErr result (IsFaultOf (plan_for input.now) input.now) }
+{
+    if !is_headed_as_certificate(input) {
+        return read_surface(alloc, input);
     }
+    let Certificate {
+        chain,
+        n,
+        sides,
+        ..
+    } = Certificate::read(alloc, input)?;
+    Ok(SurfaceText { chain, n, sides })
 }
 
-/// The line of a surface with this first flaw.
-fn rejection_text(alloc: Global, kind: FlawKind, place: u32) -> Result<Vec<u8>, AllocError>
-    ensures { IfOk result (λ text. text.items ≡ rejection kind place) }
-{
-    let mut text = Vec::new(alloc);
-    append_number_line(&mut text, rejection_label(kind), i128::from(place))?;
-    Ok(text)
-}
-
-/// Reads a surface text and answers the surface's counts, or why it is none.
+/// Reads a surface text or a certificate and answers the surface's counts, or why it is none.
 pub fn answer_surface(alloc: Global, input: &[u8]) -> Result<Answer, AllocError>
     ensures { IfOk result (λ answer. SurfaceResponds input.now answer.status answer.text.items) }
 {
-    let SurfaceText { chain, n, sides } = match read_surface(alloc, input) {
+    let SurfaceText { chain, n, sides } = match read_said(alloc, input) {
         Ok(text) => text,
         Err(TextFault::Malformed { line, kind }) => {
             return Ok(Answer::without_text(alloc, Status::Malformed { line, kind }));
@@ -88,10 +83,7 @@ pub fn answer_surface(alloc: Global, input: &[u8]) -> Result<Answer, AllocError>
             status: Status::Done,
             text: report_text(alloc, &fatgraph)?,
         }),
-        Err(SurfaceFault::Flaw { kind, place }) => Ok(Answer {
-            status: Status::Rejected { kind, place },
-            text: rejection_text(alloc, kind, place)?,
-        }),
+        Err(SurfaceFault::Flaw { kind, place }) => rejected(alloc, Condition::Flaw { kind, place }),
         Err(SurfaceFault::Memory) => Err(AllocError),
     }
 }

@@ -4,6 +4,7 @@ use crate::{Command, Status, What, command_of, run};
 use sc_chain::Kind;
 use sc_fatgraph::FlawKind;
 use sc_outside::{MemorySink, MemorySource};
+use sc_prices::{Condition, TableFlaw};
 use std::alloc::{AllocError, Global};
 use std::test::Fail;
 
@@ -20,6 +21,30 @@ const EMPTY: &[u8] = b"scallop surface 1\nwords 0\ncopies 1\nsides 0\nend\n";
 
 const LOOSE: &[u8] =
     b"scallop surface 1\nwords 1\nword 1 abAB\ncopies 1\nsides 4\nside 0 0 1\nside 1 3 2\nside 2 0 3\nside 3 1 0\nend\n";
+
+const CERTIFICATE: &[u8] =
+    b"scallop certificate 1\nwords 1\nword 1 abAB\nvalue 1/2\ncopies 1\nsides 4\nside 0 2 3\nside 3 3 0\nside 2 0 1\nside 1 1 2\nscale 1\nbase 1\npair 0 2 -5\npair 1 3 -5\nfrom 0 0 -5 -10 -5\nfrom 1 6 0 -4 1\nfrom 2 11 5 0 6\nfrom 3 6 0 -5 0\npivots 1\npivot 2 0 3 2 1\nend\n";
+
+const ANNULUS_CERTIFICATE: &[u8] =
+    b"scallop certificate 1\nwords 2\nword 1 a\nword 1 A\nvalue 0/1\ncopies 1\nsides 2\nside 0 1 0\nside 1 0 1\nscale 1\nbase -3\nbase 4\npair 0 1 -3\nfrom 0 0 1\nfrom 1 0 0\npivots 1\npivot 2 0 1\nend\n";
+
+const EMPTY_CERTIFICATE: &[u8] =
+    b"scallop certificate 1\nwords 0\nvalue 0/1\ncopies 1\nsides 0\nscale 1\npivots 0\nend\n";
+
+const LOW_ENTRY: &[u8] =
+    b"scallop certificate 1\nwords 1\nword 1 abAB\nvalue 1/2\ncopies 1\nsides 4\nside 0 2 3\nside 3 3 0\nside 2 0 1\nside 1 1 2\nscale 1\nbase 1\npair 0 2 -5\npair 1 3 -5\nfrom 0 0 -5 -9 -5\nfrom 1 6 0 -4 1\nfrom 2 11 5 0 6\nfrom 3 6 0 -5 0\npivots 1\npivot 2 0 3 2 1\nend\n";
+
+const UNENDED: &[u8] =
+    b"scallop certificate 1\nwords 1\nword 1 abAB\nvalue 1/2\ncopies 1\nsides 4\nside 0 2 3\nside 3 3 0\nside 2 0 1\nside 1 1 2\nscale 1\nbase 1\npair 0 2 -5\npair 1 3 -5\nfrom 0 0 -5 -10 -5\nfrom 1 6 0 -4 1\nfrom 2 11 5 0 6\nfrom 3 6 0 -5 0\npivots 1\npivot 2 0 3 2 1\n";
+
+const LOOSE_CERTIFICATE: &[u8] =
+    b"scallop certificate 1\nwords 1\nword 1 abAB\nvalue 1/2\ncopies 1\nsides 4\nside 0 0 3\nside 3 3 0\nside 2 0 1\nside 1 1 2\nscale 1\nbase 1\npair 0 2 -5\npair 1 3 -5\nfrom 0 0 -5 -10 -5\nfrom 1 6 0 -4 1\nfrom 2 11 5 0 6\nfrom 3 6 0 -5 0\npivots 1\npivot 2 0 3 2 1\nend\n";
+
+const SLACK: &[u8] =
+    b"scallop certificate 1\nwords 1\nword 1 abAB\nvalue 3/4\ncopies 2\nsides 8\nside 0 2 1\nside 1 3 2\nside 2 0 3\nside 3 1 4\nside 0 6 5\nside 1 7 6\nside 2 4 7\nside 3 5 0\nscale 1\nbase 1\npair 0 2 -5\npair 1 3 -5\nfrom 0 0 -5 -10 -5\nfrom 1 6 0 -4 1\nfrom 2 11 5 0 6\nfrom 3 6 0 -5 0\npivots 1\npivot 2 0 3 2 1\nend\n";
+
+const MISVALUED: &[u8] =
+    b"scallop certificate 1\nwords 1\nword 1 abAB\nvalue 1/2\ncopies 2\nsides 8\nside 0 2 1\nside 1 3 2\nside 2 0 3\nside 3 1 4\nside 0 6 5\nside 1 7 6\nside 2 4 7\nside 3 5 0\nscale 1\nbase 1\npair 0 2 -5\npair 1 3 -5\nfrom 0 0 -5 -10 -5\nfrom 1 6 0 -4 1\nfrom 2 11 5 0 6\nfrom 3 6 0 -5 0\npivots 1\npivot 2 0 3 2 1\nend\n";
 
 /// How the streams of a call behave: bytes a reading call, reading calls that fail, bytes a writing call, writing calls
 /// that fail.
@@ -72,13 +97,17 @@ const CALM: Streams<'static> = Streams {
 
 #[test]
 fn answers_what_the_commands_say(rt: HostRuntime) -> Result<(), Fail> {
-    let rejected = Status::Rejected {
+    let rejected = Status::Rejected(Condition::Flaw {
         kind: FlawKind::Mate,
         place: 0,
-    };
+    });
     let ended = Status::Malformed {
         line: 1,
         kind: Kind::Ended,
+    };
+    let form = Status::Malformed {
+        line: 1,
+        kind: Kind::Form,
     };
     let letter = Status::Malformed {
         line: 2,
@@ -112,6 +141,27 @@ fn answers_what_the_commands_say(rt: HostRuntime) -> Result<(), Fail> {
             Status::Done,
             "vertices 0\nedges 0\neuler 0\nfraction 0/1\n",
             "",
+        ),
+        (
+            "surface",
+            CERTIFICATE,
+            Status::Done,
+            "vertices 1\nedges 2\neuler -1\nfraction 1/2\n",
+            "",
+        ),
+        (
+            "surface",
+            LOW_ENTRY,
+            Status::Done,
+            "vertices 1\nedges 2\neuler -1\nfraction 1/2\n",
+            "",
+        ),
+        (
+            "surface",
+            b"scallop fan 1\n".as_slice(),
+            form,
+            "",
+            "scallop: malformed line 1 form\n",
         ),
         (
             "surface",
@@ -154,14 +204,14 @@ fn answers_what_the_commands_say(rt: HostRuntime) -> Result<(), Fail> {
             b"".as_slice(),
             Status::Usage,
             "",
-            "scallop: usage: surface | scl\n",
+            "scallop: usage: surface | check | scl\n",
         ),
         (
             "x",
             b"".as_slice(),
             Status::Usage,
             "",
-            "scallop: usage: surface | scl\n",
+            "scallop: usage: surface | check | scl\n",
         ),
     ];
     for (word, input, status, out, notes) in cases {
@@ -169,6 +219,61 @@ fn answers_what_the_commands_say(rt: HostRuntime) -> Result<(), Fail> {
         assert_eq!(rt; answer, status, "{word}");
         assert_eq!(rt; written.as_slice(), out.as_bytes(), "{word}");
         assert_eq!(rt; noted.as_slice(), notes.as_bytes(), "{word}");
+    }
+    Ok(())
+}
+
+#[test]
+fn checks_certificates(rt: HostRuntime) -> Result<(), Fail> {
+    let mate = Condition::Flaw {
+        kind: FlawKind::Mate,
+        place: 0,
+    };
+    let step = Condition::Table(TableFlaw::Step {
+        start: 0,
+        from: 3,
+        to: 2,
+    });
+    let form = Status::Malformed {
+        line: 1,
+        kind: Kind::Form,
+    };
+    let ended = Status::Malformed {
+        line: 21,
+        kind: Kind::Ended,
+    };
+    let cut_off = Status::Malformed {
+        line: 1,
+        kind: Kind::Ended,
+    };
+    let cases = [
+        (CERTIFICATE, Status::Done, "optimal 1/2\n"),
+        (ANNULUS_CERTIFICATE, Status::Done, "optimal 0/1\n"),
+        (EMPTY_CERTIFICATE, Status::Done, "optimal 0/1\n"),
+        (
+            LOOSE_CERTIFICATE,
+            Status::Rejected(mate),
+            "rejected mate 0\n",
+        ),
+        (
+            MISVALUED,
+            Status::Rejected(Condition::Value),
+            "rejected value\n",
+        ),
+        (LOW_ENTRY, Status::Rejected(step), "rejected table 0 3 2\n"),
+        (
+            SLACK,
+            Status::Rejected(Condition::NotTight),
+            "rejected tight\n",
+        ),
+        (UNENDED, ended, ""),
+        (b"scallop certificate 1".as_slice(), cut_off, ""),
+        (COMMUTATOR, form, ""),
+    ];
+    for (input, status, out) in cases {
+        let (answer, written, _) = call(rt.alloc(), "check", input, &CALM)?;
+        assert_eq!(rt; answer, status);
+        assert_eq!(rt; written.as_slice(), out.as_bytes());
     }
     Ok(())
 }
@@ -239,8 +344,8 @@ fn refuses_what_is_too_large(rt: HostRuntime) -> Result<(), Fail> {
 fn knows_its_forms_and_codes(rt: HostRuntime) -> Result<(), Fail> {
     let mut words = Vec::new(rt.alloc());
     assert_eq!(rt; command_of(&words), None);
-    words.push(String::from_str(rt.alloc(), "surface")?)?;
-    assert_eq!(rt; command_of(&words), Some(Command::Surface));
+    words.push(String::from_str(rt.alloc(), "check")?)?;
+    assert_eq!(rt; command_of(&words), Some(Command::Check));
     words.push(String::from_str(rt.alloc(), "x")?)?;
     assert_eq!(rt; command_of(&words), None);
     for (status, code) in [

@@ -1,8 +1,8 @@
-use Rattle.std.proofs.Common.{◌≡◌, ◌++◌, List, ℕ, OnOk, OnErr, sym, subst, ◌∙◌, append_assoc, ap}
-use Rattle.std.proofs.lemmas.Result.{err_from_is_err_and, on_err_weaker, IfOk-at_ok, IfErr-at_err}
-use Rattle.sc_outside.specs.Told.{Took, TookPart}
+use Rattle.std.proofs.Common.{◌++◌, subst}
+use Rattle.std.proofs.lemmas.Result.{err_from_is_err_and, on_err_weaker}
+use Rattle.sc_outside.specs.Told.{TookPart}
 use Rattle.sc_outside.proofs.Bytes.{Took-trans, TookPart-after}
-use Rattle.sc_app.specs.Notes.{number_text, text_of, note_of}
+use Rattle.sc_app.specs.Notes.{number_text}
 use Rattle.sc_app.proofs.Taken.{part_before}
 use Rattle.sc_app.proofs.note.write_note.Goals as goal
 

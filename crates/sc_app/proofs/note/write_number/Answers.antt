@@ -1,4 +1,4 @@
-use Rattle.std.proofs.Common.{◌≡◌, ◌^◌, ◌<◌, ◌≤◌, List, ℕ, Option, Some, decimal, OnOk, OnErr, arith, ap, sym, ◌∙◌, subst}
+use Rattle.std.proofs.Common.{◌≡◌, ◌^◌, ◌<◌, List, ℕ, Option, Some, decimal, OnOk, OnErr, arith, ap, sym, ◌∙◌, subst}
 use Rattle.sc_outside.specs.Told.{Took, TookPart}
 use Rattle.sc_whole.proofs.SpellingLaws.{decimal_is_spelling}
 use Rattle.sc_app.specs.Notes.{number_text}

@@ -1,4 +1,4 @@
-use Rattle.std.proofs.Common.{◌≡◌, ◌≤◌, List, ℕ, length, arith, subst, sym}
+use Rattle.std.proofs.Common.{◌≤◌, List, ℕ, length, arith, subst}
 use Rattle.sc_app.specs.Answers.{limit_of, Responds}
 use Rattle.sc_app.proofs.Serving.{served, served_read}
 use Rattle.sc_app.proofs.program.serve.Goals as goal

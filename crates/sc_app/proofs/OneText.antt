@@ -1,0 +1,125 @@
+-- With its status, the text of an answer is determined too.
+use Rattle.std.proofs.Common.{◌≡◌, ℕ, suc, ◌*◌, ◌<◌, ◌≤◌, ◌⊎◌, inl, inr, List, [], length, ℤ, pos, ◌*ℤ◌, refl, ap, ap₂, ◌∙◌, subst, sym, arith}
+use Rattle.std.proofs.lemmas.Bool.{cases_lt}
+use Rattle.std.proofs.lemmas.Int.{ints}
+use Rattle.sc_algebra.proofs.Ints.{cancel_factor, products}
+use Rattle.sc_theory.specs.Chains.{Chain}
+use Rattle.sc_theory.specs.Fatgraphs.{Sides, IsFatgraph, cost}
+use Rattle.sc_fraction.specs.declared.frac.Frac.{Frac}
+use Rattle.sc_fraction.specs.Frac.{IsQuotient, numerator, denominator}
+use Rattle.sc_fraction.specs.Laws.{same_frac}
+use Rattle.sc_chain.specs.declared.lines.RawLine.{RawLine}
+use Rattle.sc_chain.specs.ChainText.{IsChainText}
+use Rattle.sc_chain.specs.Balance.{IsFirstUnbalanced}
+use Rattle.sc_reduce.specs.Lines.{chain_of}
+use Rattle.sc_certificate.specs.Certificates.{Certificate}
+use Rattle.sc_prices.specs.declared.verdict.Condition.TheVariants.{Flaw, Value, Table, NotTight}
+use Rattle.sc_app.specs.declared.command.Command.{Command}
+use Rattle.sc_app.specs.declared.command.Command.TheVariants.{Surface, Check, Scl}
+use Rattle.sc_app.specs.declared.status.Status.{Status}
+use Rattle.sc_app.specs.declared.status.Status.TheVariants.{Done, Usage, Malformed, Large, ReadFault, WriteFault, Memory, Rejected, Unbuilt}
+use Rattle.sc_app.specs.declared.status.What.TheVariants.{Bytes, Words, Positions}
+use Rattle.sc_app.specs.Surface.{SurfaceResponds, report}
+use Rattle.sc_app.specs.Check.{CheckResponds, optimal}
+use Rattle.sc_app.specs.Scl.{SclResponds, infinite}
+use Rattle.sc_app.specs.Answers.{limit_of, Responds, AnswersTo}
+use Rattle.sc_app.proofs.Inputs.{same_certificate, same_surface}
+
+-- ---- surfaces
+
+-- two quotients of the same numbers are one number
+same_quotients : (a b p q c z : ℤ) → (z ≡ pos 0 → ⊥) → a *ℤ z ≡ c *ℤ b → p *ℤ z ≡ c *ℤ q → a *ℤ q ≡ p *ℤ b
+same_quotients a b p q c z some e f =
+    let first = simp products at (ap (λ (t : ℤ). t *ℤ q) e) in
+    let second = simp products at (ap (λ (t : ℤ). t *ℤ b) f) in
+    cancel_factor z (a *ℤ q) (p *ℤ b) some (simp products (omega (arith, ints, first, second)))
+
+same_fraction : (g : Sides) (n : ℕ) (f f' : Frac) → 0 < n → IsQuotient (cost g) (pos (2 * n)) f → IsQuotient (cost g) (pos (2 * n)) f' → f ≡ f'
+same_fraction g n f f' some q q' =
+    same_frac f f' (same_quotients (numerator f) (denominator f) (numerator f') (denominator f') (cost g) (pos (2 * n)) (λ none. omega (arith, ints, none)) q q')
+
+same_report : (input : List ℕ) (c : Chain) (n : ℕ) (g : Sides) (f : Frac) (d : Chain) (m : ℕ) (h : Sides) (f' : Frac) → IsFatgraph d m h → g ≡ h → n ≡ m
+    → IsQuotient (cost g) (pos (2 * n)) f → IsQuotient (cost h) (pos (2 * m)) f' → report g f ≡ report h f'
+same_report input c n g f d m h f' fatgraph sides copies q q' =
+    let along : IsQuotient (cost h) (pos (2 * m)) f =
+    subst (λ (k : ℕ). IsQuotient (cost h) (pos (2 * k)) f) copies (subst (λ (x : Sides). IsQuotient (cost x) (pos (2 * n)) f) sides q) in
+    ap₂ report sides (same_fraction h m f f' fatgraph.copies along q')
+
+surface_text : (input text text' : List ℕ) (s : Status) → SurfaceResponds input s text → SurfaceResponds input s text' → text ≡ text'
+surface_text input text text' (Malformed at kind) r r' = r.1 ∙ sym r'.1
+surface_text input text text' (Rejected (Flaw kind place)) r r' = r.5 ∙ sym r'.5
+surface_text input text text' (Rejected Value) r r' = absurd r
+surface_text input text text' (Rejected (Table flaw)) r r' = absurd r
+surface_text input text text' (Rejected NotTight) r r' = absurd r
+surface_text input text text' Done r r' =
+    let same = same_surface input r.0 r.1 r.2 r'.0 r'.1 r'.2 r.4 r'.4 in
+    r.7 ∙ same_report input r.0 r.1 r.2 r.3 r'.0 r'.1 r'.2 r'.3 r'.5 same.sides same.copies r.6 r'.6 ∙ sym r'.7
+surface_text input text text' (Large what) r r' = absurd r
+surface_text input text text' Usage r r' = absurd r
+surface_text input text text' ReadFault r r' = absurd r
+surface_text input text text' WriteFault r r' = absurd r
+surface_text input text text' Memory r r' = absurd r
+surface_text input text text' Unbuilt r r' = absurd r
+
+-- ---- certificates
+
+check_text : (input text text' : List ℕ) (s : Status) → CheckResponds input s text → CheckResponds input s text' → text ≡ text'
+check_text input text text' (Malformed at kind) r r' = r.1 ∙ sym r'.1
+check_text input text text' (Rejected condition) r r' = r.3 ∙ sym r'.3
+check_text input text text' Done r r' =
+    r.3 ∙ ap (λ (v : Certificate). optimal v.value) (same_certificate input r.0 r'.0 r.1 r'.1) ∙ sym r'.3
+check_text input text text' (Large what) r r' = absurd r
+check_text input text text' Usage r r' = absurd r
+check_text input text text' ReadFault r r' = absurd r
+check_text input text text' WriteFault r r' = absurd r
+check_text input text text' Memory r r' = absurd r
+check_text input text text' Unbuilt r r' = absurd r
+
+-- ---- chains
+
+same_lines : (input : List ℕ) (lines lines' : List RawLine) → IsChainText input lines → IsChainText input lines' → lines ≡ lines'
+same_lines input lines lines' a b = a.entries ∙ sym b.entries
+
+same_generator : (c : Chain) (g h : ℕ) (t u : ℤ) → IsFirstUnbalanced c g t → IsFirstUnbalanced c h u → g ≡ h
+same_generator c g h t u a b =
+    elim (cases_lt g h) [
+      | inl less ↦ absurd (a.unbalanced (a.total_is ∙ b.least g less))
+      | inr others ↦ elim (cases_lt h g) [
+        | inl less ↦ absurd (b.unbalanced (b.total_is ∙ a.least h less))
+        | inr same ↦ omega arith
+      ]
+    ]
+
+same_infinite : (c : Chain) (g h : ℕ) (t u : ℤ) → IsFirstUnbalanced c g t → IsFirstUnbalanced c h u → infinite g t ≡ infinite h u
+same_infinite c g h t u a b =
+    let same : g ≡ h = same_generator c g h t u a b in
+    ap₂ infinite same ((subst (λ (k : ℕ). IsFirstUnbalanced c k t) same a).total_is ∙ sym b.total_is)
+
+scl_text : (input text text' : List ℕ) (s : Status) → SclResponds input s text → SclResponds input s text' → text ≡ text'
+scl_text input text text' (Malformed at kind) r r' = r.1 ∙ sym r'.1
+scl_text input text text' (Large Bytes) r r' = absurd r
+scl_text input text text' (Large (Words n)) r r' = r.3 ∙ sym r'.3
+scl_text input text text' (Large (Positions n)) r r' = r.3 ∙ sym r'.3
+scl_text input text text' Done r r' =
+    let first : IsFirstUnbalanced (chain_of r'.0) r.3.0 r.3.1 =
+    subst (λ (lines : List RawLine). IsFirstUnbalanced (chain_of lines) r.3.0 r.3.1) (same_lines input r.0 r'.0 r.1 r'.1) r.3.2 in
+    r.3.3 ∙ same_infinite (chain_of r'.0) r.3.0 r'.3.0 r.3.1 r'.3.1 first r'.3.2 ∙ sym r'.3.3
+scl_text input text text' Unbuilt r r' = r.3.1 ∙ sym r'.3.1
+scl_text input text text' Usage r r' = absurd r
+scl_text input text text' (Rejected condition) r r' = absurd r
+scl_text input text text' ReadFault r r' = absurd r
+scl_text input text text' WriteFault r r' = absurd r
+scl_text input text text' Memory r r' = absurd r
+
+-- ---- commands
+
+response_text : (c : Command) (input text text' : List ℕ) (s : Status) → Responds c input s text → Responds c input s text' → text ≡ text'
+response_text Surface input text text' s r r' = surface_text input text text' s r r'
+response_text Check input text text' s r r' = check_text input text text' s r r'
+response_text Scl input text text' s r r' = scl_text input text text' s r r'
+
+pub one_text : (c : Command) (input text text' : List ℕ) (s : Status) → AnswersTo c input s text → AnswersTo c input s text' → text ≡ text'
+one_text c input text text' s (inl a) (inl b) = a.2 ∙ sym b.2
+one_text c input text text' s (inl a) (inr b) = absurd (omega (arith, a.0, b.0))
+one_text c input text text' s (inr a) (inl b) = absurd (omega (arith, a.0, b.0))
+one_text c input text text' s (inr a) (inr b) = response_text c input text text' s a.1 b.1
