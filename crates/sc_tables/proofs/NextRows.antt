@@ -36,5 +36,5 @@ module _ {W : Type 0} (levels : W → Levels) (t : Square W) (old nodes : List (
               let same : get_or (next ++ o ∷ []) k None ≡ o = ap (λ (n : ℕ). get_or (next ++ o ∷ []) n None) end ∙ get_or-append_seam next o [] None in
               subst (λ (n : ℕ). IsNext levels t new fresh (length old) s n (get_or row n None) (get_or (next ++ o ∷ []) n None)) at
               (subst (IsNext levels t new fresh (length old) s k (get_or row k None)) (sym same) is))
-        ]
+        ];
       }

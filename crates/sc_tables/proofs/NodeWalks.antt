@@ -39,14 +39,14 @@ last_step_of c s j (k ∷ ks) leads =
     let rest = walks_rest c s front (z ∷ []) walks in
     let last = all_rest (λ i. s ≢ i) front (z ∷ []) away in
     inr (subst (λ (m : ℕ). LastStep c s m (k ∷ ks)) at
-      (record {
-        front = front;
-        from = end_of s front;
-        is = is;
-        leads = record { walks = walks_front c s front (z ∷ []) walks; away = all_front (λ i. s ≢ i) front (z ∷ []) away; ends = refl };
-        step = rest.0;
-        away = last.0
-      }))
+    (record {
+      front = front;
+      from = end_of s front;
+      is = is;
+      leads = record { walks = walks_front c s front (z ∷ []) walks; away = all_front (λ i. s ≢ i) front (z ∷ []) away; ends = refl };
+      step = rest.0;
+      away = last.0;
+    }))
 
 -- ---- the walk of a node
 pub record IsWalkTo {W : Type 0} (levels : W → Levels) (c : Chain) (t : Square W) (s : ℕ) (x : Node W) : Type 0 where
@@ -66,11 +66,11 @@ module _ {W : Type 0} (levels : W → Levels) (c : Chain) (t : Square W) (s : �
         walk = w.walk ++ x.place ∷ [];
         leads = leads-step c s m.place x.place w.walk w.leads step is.away;
         total =
-          open_total-step (price_in levels t) s w.walk m.place x.place w.leads.ends
-          ∙ ap (λ (a : Levels). levels_sum a (price_in levels t m.place x.place)) w.total
-          ∙ ap (λ (a : Levels). levels_sum (levels m.total) a) (price_at levels t m.place x.place is.price is.step)
-          ∙ sym is.total;
-        few = omega (arith, length-append w.walk (x.place ∷ []), w.few, is.steps)
+            open_total-step (price_in levels t) s w.walk m.place x.place w.leads.ends
+            ∙ ap (λ (a : Levels). levels_sum a (price_in levels t m.place x.place)) w.total
+            ∙ ap (λ (a : Levels). levels_sum (levels m.total) a) (price_at levels t m.place x.place is.price is.step)
+            ∙ sym is.total;
+        few = omega (arith, length-append w.walk (x.place ∷ []), w.few, is.steps);
       }
 
   walk_below : (most : ℕ) (nodes : List (Node W)) → AreWalks levels t s most nodes → (k n : ℕ) (x : Node W) → n < k → slice_get nodes n ≡ Some x → IsWalkTo levels c t s x

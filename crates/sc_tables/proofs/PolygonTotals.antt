@@ -98,7 +98,7 @@ wide_step c price walk k wide polygon inside evidence =
       is = ap (λ (ys : List ℕ). ys ++ get_or (round walk) k 0 ∷ []) (front_after walk k inside);
       steps = subst (WalksAlong c (get_or walk 0 0)) more along;
       few = omega (arith, ap length more, length-take (k + 1) (round walk), length-round walk);
-      evidence = subst (λ (e : ℕ). IsFirstWideLevel Add (levels_sum (total_after price walk k) (price e (get_or (round walk) k 0))) (total_after price walk k) (price e (get_or (round walk) k 0)) wide) (sym (end_after walk k inside)) evidence
+      evidence = subst (λ (e : ℕ). IsFirstWideLevel Add (levels_sum (total_after price walk k) (price e (get_or (round walk) k 0))) (total_after price walk k) (price e (get_or (round walk) k 0)) wide) (sym (end_after walk k inside)) evidence;
     }
 
 -- ---- one of the polygons of a closed walk below a threshold is below it

@@ -43,10 +43,10 @@ module _ (c : Chain) (price : ℕ → ℕ → Levels) (threshold : Levels) (entr
       record {
         reached = (rows s inside).sound j a within e;
         least = λ js leads.
-          (let short = short_suffices c price none_negative s j inside js leads in
-          let (b, is, low) = (rows s inside).cover j short.walk short.leads short.short in
-          let same : b ≡ a = cc in
-          at_most-trans a (open_total price s short.walk) (open_total price s js) (subst (λ (x : Levels). IsAtMost x (open_total price s short.walk)) same low) short.lower)
+            (let short = short_suffices c price none_negative s j inside js leads in
+            let (b, is, low) = (rows s inside).cover j short.walk short.leads short.short in
+            let same : b ≡ a = cc in
+            at_most-trans a (open_total price s short.walk) (open_total price s js) (subst (λ (x : Levels). IsAtMost x (open_total price s short.walk)) same low) short.lower);
       }
 
   pub are_least : AreLeastTotals c price entry

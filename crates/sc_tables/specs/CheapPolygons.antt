@@ -1,6 +1,7 @@
 -- What cheap_polygon answers.
 use Rattle.std.specs.Prelude.{◌≡◌, ℕ, ◌+◌, ◌*◌, ◌<◌, ◌≤◌, List, [], ◌∷◌, ◌++◌, length, get_or, slice_get, take, Option, Some, None}
 use Rattle.std.specs.Option.{option_map}
+use Rattle.sc_chain.specs.declared.limits.TheConstants.{MAX_POSITIONS}
 use Rattle.sc_theory.specs.Chains.{Chain, positions}
 use Rattle.sc_theory.specs.Walks.{IsClosedWalk}
 use Rattle.sc_weight.specs.Levels.{Levels, levels_sum}
@@ -85,7 +86,7 @@ ShowsWide {W} levels nodes n to wide fault =
 
 -- a stop names a node and a position
 abbrev pub NamesNode : {W : Type 0} → List (Node W) → Stop → Type 0
-NamesNode nodes (Stops.Wide n to wide) = (n < length nodes) × (to ≤ 64)
+NamesNode nodes (Stops.Wide n to wide) = (n < length nodes) × (to ≤ MAX_POSITIONS)
 NamesNode nodes Stops.Memory = Unit {0}
 
 abbrev pub ShowsStop : {W : Type 0} → (W → Levels) → List (Node W) → Stop → TableFault → Type 0

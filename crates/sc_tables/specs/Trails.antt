@@ -1,6 +1,7 @@
 -- The walk of a node, read back from its end, and the totals of a row.
 use Rattle.std.specs.Prelude.{◌≡◌, ◌≢◌, ℕ, ◌+◌, ◌<◌, ◌≤◌, List, [], ◌∷◌, length, get_or, slice_get, reverse, Option, Some, None}
 use Rattle.std.specs.List.{AllByRecursion}
+use Rattle.sc_chain.specs.declared.limits.TheConstants.{MAX_POSITIONS}
 use Rattle.sc_theory.specs.Chains.{Chain}
 use Rattle.sc_weight.specs.Levels.{Levels, levels_sum}
 use Rattle.sc_tables.specs.Squares.{Square}
@@ -37,8 +38,8 @@ ReadsTo {W} levels nodes n walk = (c : Chain) (t : Square W) (s most : ℕ) (x :
 pub record AreLinked {W : Type 0} (nodes : List (Node W)) : Type 0 where
   pub some : 0 < length nodes
   pub earlier : (n : ℕ) (x : Node W) → 0 < n → slice_get nodes n ≡ Some x → x.before < n
-  pub place : (n : ℕ) (x : Node W) → slice_get nodes n ≡ Some x → x.place ≤ 64
-  pub steps : (n : ℕ) (x : Node W) → slice_get nodes n ≡ Some x → x.steps ≤ 64
+  pub place : (n : ℕ) (x : Node W) → slice_get nodes n ≡ Some x → x.place ≤ MAX_POSITIONS
+  pub steps : (n : ℕ) (x : Node W) → slice_get nodes n ≡ Some x → x.steps ≤ MAX_POSITIONS
 
 -- the walk of the node x is that of the node y and the list behind it
 pub record GoesTo {W : Type 0} (levels : W → Levels) (c : Chain) (t : Square W) (s : ℕ) (y x : Node W) (rest : List ℕ) : Type 0 where

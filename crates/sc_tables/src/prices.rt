@@ -18,7 +18,11 @@ use std::marker::Model;
 #[derive(Clone, Copy, Debug, PartialEq, Eq)]
 pub enum StepFault {
     /// 0 minus the price of a pair's row is outside 128 bits at this level.
-    Turn { row: u32, level: Level, wide: Wide },
+    Turn {
+        row: u32,
+        level: Level,
+        wide: Wide,
+    },
     /// The price of the pair plus the base price is, at the step between these positions.
     Step {
         from: u32,
@@ -125,6 +129,7 @@ pub struct StepPrices<W> {
 impl<W> Model for StepPrices<W> {
     ghost use Rattle.std.specs.Prelude.{◌≡◌, ◌≤◌, ◌*◌, length};
     ghost use Rattle.sc_tables.specs.Squares.{Square, square_code};
+    ghost use Rattle.sc_chain.specs.declared.limits.TheConstants.{MAX_POSITIONS};
 
     ghost Value = { Square W };
 
@@ -132,7 +137,7 @@ impl<W> Model for StepPrices<W> {
 
     ghost view = { λ p. record { side = p.side; cells = p.cells.items } };
 
-    ghost invariant = { λ p. (p.side ≤ 64) × (length p.cells.items ≡ p.side * p.side) };
+    ghost invariant = { λ p. (p.side ≤ MAX_POSITIONS) × (length p.cells.items ≡ p.side * p.side) };
 }
 
 impl<W: Weight> StepPrices<W> {

@@ -70,6 +70,7 @@ pub struct Distances<W> {
 impl<W> Model for Distances<W> {
     ghost use Rattle.std.specs.Prelude.{◌≡◌, ◌≤◌, ◌*◌, length};
     ghost use Rattle.sc_tables.specs.Squares.{Square, square_code};
+    ghost use Rattle.sc_chain.specs.declared.limits.TheConstants.{MAX_POSITIONS};
 
     ghost Value = { Square W };
 
@@ -77,7 +78,7 @@ impl<W> Model for Distances<W> {
 
     ghost view = { λ d. record { side = d.side; cells = d.cells.items } };
 
-    ghost invariant = { λ d. (d.side ≤ 64) × (length d.cells.items ≡ d.side * d.side) };
+    ghost invariant = { λ d. (d.side ≤ MAX_POSITIONS) × (length d.cells.items ≡ d.side * d.side) };
 }
 
 impl<W: Weight> Distances<W> {

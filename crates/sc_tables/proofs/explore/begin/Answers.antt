@@ -14,5 +14,5 @@ returns g c =
       );
       len = c.in_ok-first_row.ensures.len;
       start = c.in_ok-first_row.ensures.start c.requires;
-      others = c.in_ok-first_row.ensures.others
+      others = c.in_ok-first_row.ensures.others;
     }

@@ -11,7 +11,7 @@ turned c =
     c.in_ok-extend_from_slice-2.ensures.items
     ∙ ap (λ (ys : List ℕ). ys ++ take c.least_place-least.result c.args.cycle.now)
     (c.in_ok-extend_from_slice.ensures.items ∙ ap (λ (ys : List ℕ). ys ++ take (length c.args.cycle.now - c.least_place-least.result) (drop c.least_place-least.result c.args.cycle.now)) c.in_ok-walk.ensures.items
-      ∙ rest_whole c.args.cycle.now c.least_place-least.result)
+    ∙ rest_whole c.args.cycle.now c.least_place-least.result)
 
 valid : (c : After-of) → IsPolygonOf c.args.chain.now c.args.cycle.now c.extend_from_slice-2.new.self.items
 valid c =
