@@ -24,3 +24,6 @@ pub use price_list::PriceList;
 pub use printing::print_certificate_text;
 pub use reader::{CertificateReader, read_certificate_text};
 pub use tables::{Row, Tables};
+
+#[cfg(test)]
+mod tests;
