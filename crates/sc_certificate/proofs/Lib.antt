@@ -10,3 +10,4 @@ pub mod ListLaws
 pub mod BodyLaws
 pub mod ReaderLaws
 pub mod ReadTexts
+pub mod PrintingLaws

@@ -96,10 +96,14 @@ module _ (v : Certificate) where
   lines_lack : AllLack 10 (certificate_lines v)
   lines_lack = (
     refl,
-    both_lack (words_lines v.chain) _ words_lack
-        (lacks-value_line v.value, (lacks-numbers_line (codes "copies") (pos v.copies ∷ []) refl,
+    both_lack (words_lines v.chain) _ words_lack (
+      lacks-value_line v.value,
+      (
+        lacks-numbers_line (codes "copies") (pos v.copies ∷ []) refl,
         both_lack (sides_lines v.sides) _ sides_lack (both_lack (list_lines v.chain v.list) _ list_lack
-        (both_lack (tables_lines v.tables) _ tables_lack (both_lack (journal_lines v.journal) _ journal_lack (refl, tt)))))),
+            (both_lack (tables_lines v.tables) _ tables_lack (both_lack (journal_lines v.journal) _ journal_lack (refl, tt)))),
+      ),
+    ),
   )
 
 pub parts-certificate_text : (v : Certificate) → parts (certificate_text v) ≡ certificate_lines v ++ [] ∷ []

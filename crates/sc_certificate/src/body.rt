@@ -46,12 +46,7 @@ impl Model for Body {
 }
 
 // Reads the line of the next row, which is due to have so many entries.
-fn take_row(
-    tables: &mut Tables,
-    alloc: Global,
-    line: &[u8],
-    places: usize,
-) -> Result<(), LineFault>
+fn take_row(tables: &mut Tables, alloc: Global, line: &[u8], places: usize) -> Result<(), LineFault>
     requires few { places ≤ MAX_POSITIONS }
     requires some { length tables.old < places }
     ensures ok { OnOk result ((c : Chain) (rest : AnyTables → Format Certificate) → places ≡ positions c → Steps (tables_due c tables.old rest) (tables_due c tables.new rest) line.now) }
@@ -68,12 +63,12 @@ impl Body {
     /// A reader that has read nothing.
     pub fn new(alloc: Global) -> Body
         ensures { result ≡ record {
-            copies = None;
-            sides = record { count = None; items = [] };
-            list = record { scale = None; base = []; pair = [] };
-            tables = [];
-            journal = record { count = None; items = [] };
-            ended = false;
+          copies = None;
+          sides = record { count = None; items = [] };
+          list = record { scale = None; base = []; pair = [] };
+          tables = [];
+          journal = record { count = None; items = [] };
+          ended = false;
         } }
     {
         Body {
@@ -91,7 +86,9 @@ impl Body {
         ensures lines { result ≡ body_lines self.now }
         ensures few { result ≤ 2_000_000 }
     {
-        self.copies.is_some() as u32 + self.sides.lines() + self.list.lines()
+        self.copies.is_some() as u32
+            + self.sides.lines()
+            + self.list.lines()
             + self.tables.rows() as u32
             + self.journal.lines()
             + self.ended as u32
@@ -111,7 +108,10 @@ impl Body {
         if !self.sides.is_whole() {
             return self.sides.take_line(line);
         }
-        if !self.list.is_whole(head.chain().words(), head.pairs().count()) {
+        if !self
+            .list
+            .is_whole(head.chain().words(), head.pairs().count())
+        {
             return self.list.take_line(line, head);
         }
         let places = head.chain().positions();
@@ -119,7 +119,9 @@ impl Body {
             return take_row(&mut self.tables, alloc, line, places);
         }
         if !self.journal.is_whole() {
-            return self.journal.take_line(alloc, line, head.chain(), head.pairs());
+            return self
+                .journal
+                .take_line(alloc, line, head.chain(), head.pairs());
         }
         if !self.ended {
             literal_line(line, b"end")?;
@@ -133,8 +135,11 @@ impl Body {
     fn is_whole(&self, head: &Head) -> bool
         ensures { result ≡ is_whole_body head.now self.now }
     {
-        self.copies.is_some() && self.sides.is_whole()
-            && self.list.is_whole(head.chain().words(), head.pairs().count())
+        self.copies.is_some()
+            && self.sides.is_whole()
+            && self
+                .list
+                .is_whole(head.chain().words(), head.pairs().count())
             && self.tables.rows() >= head.chain().positions()
             && self.journal.is_whole()
             && self.ended

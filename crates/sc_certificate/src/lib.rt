@@ -9,6 +9,7 @@ mod laws;
 mod list;
 mod pivots;
 mod price_list;
+mod printing;
 mod reader;
 mod sides;
 mod tables;
@@ -20,5 +21,9 @@ pub use laws::{
     faultless_is_certificate_text, pivot_lines_are_a_kind,
 };
 pub use price_list::PriceList;
+pub use printing::print_certificate_text;
 pub use reader::{CertificateReader, read_certificate_text};
 pub use tables::{Row, Tables};
+
+#[cfg(test)]
+mod tests;

@@ -61,8 +61,7 @@ impl CertificateReader {
     pub fn next_line(&self) -> u32
         ensures { result ≡ lines_read self.now + 1 }
     {
-        1 + self.headed as u32 + self.words.lines() + self.head.is_some() as u32
-            + self.body.lines()
+        1 + self.headed as u32 + self.words.lines() + self.head.is_some() as u32 + self.body.lines()
     }
 
     /// Reads the next line, without its LF. An `Err` changes nothing.

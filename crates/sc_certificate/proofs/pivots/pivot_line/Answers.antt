@@ -38,8 +38,7 @@ pub returns-clause-ok : goal.returns-clause-ok
 returns-clause-ok c =
     let named : fields c.args.line.now ≡ codes "pivot" ∷ c.name.new.self = sym c.of-fields.ensures ∙ c.in_ok-name.ensures.ok in
     let count = row_count_is (goal.at.returns-clause-ok c).After-of-fields in
-    let walk : c.number.new.self ≡ map (λ i. spelling (pos i)) c.in-Some.polygon = c.in_ok-walk.ensures.ok ∙ ap (λ (w : List ℕ). map (λ i. spelling (pos i)) w) (sym c.in-Some.ensures.walk) in
-    (
+    let walk : c.number.new.self ≡ map (λ i. spelling (pos i)) c.in-Some.polygon = c.in_ok-walk.ensures.ok ∙ ap (λ (w : List ℕ). map (λ i. spelling (pos i)) w) (sym c.in-Some.ensures.walk) in (
       line_of_pivot c.args.chain.now c.args.line.now c.name.new.self named c.number.new.self c.in_ok-row.row c.in_ok-row-2.row c.in-Some.polygon c.in_ok-row.ensures.ok c.in_ok-row-2.ensures.ok.0 walk,
       record {
         row = subst (λ (n : ℕ). c.in_ok-row-2.row < n) count c.in_ok-row-2.ensures.ok.1;
