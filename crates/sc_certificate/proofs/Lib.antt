@@ -10,4 +10,3 @@ pub mod ListLaws
 pub mod BodyLaws
 pub mod ReaderLaws
 pub mod ReadTexts
-pub mod PrintingLaws

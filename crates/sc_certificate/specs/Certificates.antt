@@ -31,12 +31,10 @@ pub record Certificate : Type 0 where
 abbrev pub heading : Line
 heading = codes "scallop certificate 1"
 
--- the lines of a price list: its scale, the price of each word, and that of each of these pairs
-abbrev pub list_lines_of : List (ℕ × ℕ) → Prices → List Line
-list_lines_of ps list = scale_line list.scale ∷ (map base_line list.base ++ map (λ e. pair_line e.0 e.1) (zip ps list.pair))
-
+-- the lines of a price list: its scale, the price of each word, and that of each pair
 abbrev pub list_lines : Chain → Prices → List Line
-list_lines c list = list_lines_of (pairs c) list
+list_lines c list =
+    scale_line list.scale ∷ (map base_line list.base ++ map (λ e. pair_line e.0 e.1) (zip (pairs c) list.pair))
 
 -- the lines of distance tables: the row of each start
 abbrev pub tables_lines : Tables → List Line

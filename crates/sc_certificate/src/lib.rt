@@ -9,7 +9,6 @@ mod laws;
 mod list;
 mod pivots;
 mod price_list;
-mod printing;
 mod reader;
 mod sides;
 mod tables;
@@ -21,7 +20,6 @@ pub use laws::{
     faultless_is_certificate_text, pivot_lines_are_a_kind,
 };
 pub use price_list::PriceList;
-pub use printing::print_certificate_text;
 pub use reader::{CertificateReader, read_certificate_text};
 pub use tables::{Row, Tables};
 
