@@ -153,7 +153,7 @@ fn a_text_that_is_cut_has_ended(rt: HostRuntime) -> Result<(), Fail> {
         assert_eq!(rt; fault_of(&rt, text.as_slice()), Some((line, Kind::Ended)));
         text.push(*byte)?;
         if *byte == b'\n' {
-            line += 1;
+            line = line.wrapping_add(1);
         }
     }
     text.push(b'x')?;
