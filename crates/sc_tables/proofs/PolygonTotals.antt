@@ -14,6 +14,7 @@ use Rattle.sc_weight.specs.declared.level.WideLevel.{WideLevel}
 use Rattle.sc_whole.specs.declared.checked.Op.TheVariants.{Add}
 use Rattle.sc_tables.specs.Walks.{WalksAlong, end_of}
 use Rattle.sc_tables.specs.Totals.{bulk_of, fine_of, open_total, closed_total, IsBelow, IsAtMost}
+use Rattle.sc_tables.specs.Tables.{IsPolygonBelow}
 use Rattle.sc_tables.specs.Splits.{walks_total, HaveStepsOf}
 use Rattle.sc_tables.specs.CheapPolygons.{round, total_after, IsWideWalk, IsClosedBelow}
 use Rattle.sc_tables.proofs.Order.{at_most-trans, threshold_sum, at_most_below}
@@ -113,6 +114,13 @@ sum_at_least price t w (v ∷ ws) above all =
 not_empty : (c : Chain) (walk : List ℕ) → IsClosedWalk c walk → ¬ HaveStepsOf [] walk
 not_empty c [] closed have = closed
 not_empty c (i ∷ js) closed have = let none = have (climb (λ _. 0)) in let all = walk_total-climb (λ _. 0) (i ∷ js) in absurd (omega (arith, ints, none, all))
+
+pub only_below : (c : Chain) (price : ℕ → ℕ → Levels) (t : Levels) (walk : List ℕ) (w : List ℕ) (ws : List (List ℕ)) → length ws ≡ 1 → w ≡ get_or ws 0 [] → AllByRecursion (IsPolygon c) ws → IsClosedBelow c price t walk → HaveStepsOf ws walk → IsPolygonBelow c price t w
+only_below c price t walk w [] one at all is have = absurd (omega arith)
+only_below c price t walk w (v ∷ u ∷ ws) one at all is have = absurd (omega arith)
+only_below c price t walk w (v ∷ []) one at all is have =
+    let same : closed_total price v ≡ closed_total price walk = sym (levels_sum_zero (closed_total price v)) ∙ (λ i. record { bulk = have (bulk_of price) i; fine = have (fine_of price) i }) in
+    subst (IsPolygonBelow c price t) (sym at) (record { polygon = all.0; below = subst (λ (l : Levels). IsBelow l t) (sym same) is.below })
 
 pub some_below : (c : Chain) (price : ℕ → ℕ → Levels) (t : Levels) (walk : List ℕ) (ws : List (List ℕ)) → IsBelow zero_levels t → IsClosedBelow c price t walk → HaveStepsOf ws walk → ¬ ((k : ℕ) → k < length ws → IsAtMost t (closed_total price (get_or ws k [])))
 some_below c price t walk [] above is have all = not_empty c walk is.closed have

@@ -254,7 +254,10 @@ fn cheap_of<W: Weight>(
     ensures faults { IfErr result (IsTableFault chain.now (price_in W.levels prices.now)) }
 {
     let polygons = polygons_of(alloc, chain, walk)?;
-    first_below(alloc, chain, prices, threshold, polygons.as_slice())
+    match polygons.as_slice() {
+        [only] => Ok(only.copy(alloc)?),
+        several => first_below(alloc, chain, prices, threshold, several),
+    }
 }
 
 /// A polygon whose total is below the threshold, or the tables of the least totals, which vouch that every closed walk has
