@@ -1,5 +1,5 @@
 -- The pieces of a certificate text.
-use Rattle.std.proofs.Common.{◌≡◌, ℕ, ◌+◌, ◌<◌, ◌≤◌, List, [], ◌∷◌, ◌++◌, map, length, get_or, take, drop, codes, ℤ, pos, refl, sym, ap, ◌∙◌, append_assoc, append-nil, arith, All, subst}
+use Rattle.std.proofs.Common.{◌≡◌, ℕ, ◌+◌, ◌<◌, List, [], ◌∷◌, ◌++◌, map, length, get_or, take, drop, codes, ℤ, pos, refl, sym, ap, ◌∙◌, append_assoc, append-nil, arith, All, subst}
 use Rattle.std.specs.List.{flat_map, zip, enumerate_from}
 use Rattle.std.proofs.lemmas.List.{get_or-map, length-map, get_or_default}
 use Rattle.std.proofs.lemmas.List.Concat.{flat_map-append}
@@ -8,20 +8,20 @@ use Rattle.std.proofs.lemmas.Slice.Zip.{get_or-zip}
 use Rattle.sc_whole.specs.Spelling.{spelling}
 use Rattle.sc_theory.specs.declared.Letter.{Letter}
 use Rattle.sc_theory.specs.Words.{Word}
-use Rattle.sc_theory.specs.Chains.{Chain, no_word, no_letter, word, letter, first, positions}
+use Rattle.sc_theory.specs.Chains.{Chain, no_word, no_letter, word, first}
 use Rattle.sc_theory.specs.Prices.{Tables}
 use Rattle.sc_theory.proofs.ChainLaws.{place_inside, letter_place}
 use Rattle.sc_chain.specs.Faults.{IsSmallChain}
 use Rattle.sc_chain.specs.declared.limits.TheConstants.{GENERATORS}
 use Rattle.sc_chain.specs.declared.polygon.Pivot.{Pivot}
-use Rattle.sc_text.specs.Lines.{Line, ended, text_of, spaced}
+use Rattle.sc_text.specs.Lines.{Line, ended, text_of}
 use Rattle.sc_text.specs.Surfaces.{ending, count_line, words_lines, sides_lines}
 use Rattle.sc_text.specs.PriceLines.{pair_line}
 use Rattle.sc_text.specs.ValueLines.{value_line}
 use Rattle.sc_text.specs.TableLines.{Entry, from_line}
 use Rattle.sc_text.proofs.PrintLaws.{pieces_at, pieces_more, line_flat}
 use Rattle.sc_certificate.specs.PivotLines.{pivot_line}
-use Rattle.sc_certificate.specs.Certificates.{Certificate, heading, list_lines, tables_lines, journal_lines, certificate_lines, certificate_text}
+use Rattle.sc_certificate.specs.Certificates.{Certificate, heading, list_lines, tables_lines, journal_lines, certificate_text}
 
 -- ---- lines one after another
 

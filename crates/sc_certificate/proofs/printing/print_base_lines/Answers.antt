@@ -1,4 +1,4 @@
-use Rattle.std.proofs.Common.{◌≡◌, ◌+◌, ◌++◌, List, map, take, drop, get_or, pos, FitsSigned, to_z-of_z, rules}
+use Rattle.std.proofs.Common.{◌+◌, map, take, drop, get_or, pos, FitsSigned, to_z-of_z, rules}
 use Rattle.std.specs.Int.{w128}
 use Rattle.sc_text.specs.Lines.{ended, text_of}
 use Rattle.sc_text.specs.Printing.{AppendsPart}

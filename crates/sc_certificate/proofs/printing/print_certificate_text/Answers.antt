@@ -8,8 +8,8 @@ use Rattle.sc_text.specs.Lines.{ended, text_of}
 use Rattle.sc_text.specs.Printing.{AppendsPart}
 use Rattle.sc_text.specs.Surfaces.{ending, count_line, words_lines, sides_lines}
 use Rattle.sc_text.specs.ValueLines.{value_line}
-use Rattle.sc_text.proofs.PrintLaws.{on_err, nothing_appended, front_part, then_part, then_all}
-use Rattle.sc_certificate.specs.Certificates.{heading, list_lines, list_lines_of, tables_lines, journal_lines, certificate_text}
+use Rattle.sc_text.proofs.PrintLaws.{on_err, front_part, then_part, then_all}
+use Rattle.sc_certificate.specs.Certificates.{heading, list_lines, list_lines_of, tables_lines, journal_lines}
 use Rattle.sc_certificate.specs.Texts.{certificate_of}
 use Rattle.sc_certificate.proofs.PrintingLaws.{spellable, certificate_pieces}
 use Rattle.sc_certificate.proofs.printing.print_certificate_text.Goals as goal

@@ -1,4 +1,4 @@
-use Rattle.std.proofs.Common.{◌≡◌, ◌++◌, ℤ, List, map, FitsSigned, to_z-of_z, rules, ap, subst}
+use Rattle.std.proofs.Common.{◌≡◌, ◌++◌, ℤ, map, FitsSigned, to_z-of_z, rules, subst}
 use Rattle.std.specs.Int.{w128}
 use Rattle.std.proofs.lemmas.Result.{on_err_weaker}
 use Rattle.sc_text.specs.Lines.{ended, text_of}

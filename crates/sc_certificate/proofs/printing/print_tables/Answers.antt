@@ -1,6 +1,6 @@
-use Rattle.std.proofs.Common.{◌≡◌, ◌<◌, ◌≤◌, ◌∙◌, ◌++◌, List, length, take, sym, ap, arith}
+use Rattle.std.proofs.Common.{◌<◌, ◌≤◌, ◌∙◌, ◌++◌, List, length, sym, ap, arith}
 use Rattle.std.proofs.lemmas.List.{take_all}
-use Rattle.sc_text.specs.Lines.{Line, ended, text_of}
+use Rattle.sc_text.specs.Lines.{Line, text_of}
 use Rattle.sc_text.specs.TableLines.{Entry, from_line}
 use Rattle.sc_text.proofs.PrintLaws.{part_after, on_err}
 use Rattle.sc_certificate.specs.Certificates.{tables_lines}
