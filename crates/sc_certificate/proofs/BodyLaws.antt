@@ -1,5 +1,5 @@
 -- What a line behind the value does.
-use Rattle.std.proofs.Common.{◌≡◌, ℕ, ◌+◌, ◌-◌, ◌<◌, ◌≤◌, Bool, true, false, not, ◌&&◌, leb, List, [], ◌∷◌, length, Option, Some, None, is_some, codes, ℤ, pos, refl, sym, ap, subst, ◌∙◌, arith, inl, inr}
+use Rattle.std.proofs.Common.{◌≡◌, ℕ, ◌≤◌, Bool, true, false, ◌&&◌, leb, List, [], ◌∷◌, length, Option, Some, None, is_some, codes, ℤ, pos, refl, sym, ap, subst, ◌∙◌, inl, inr}
 use Rattle.std.specs.Option.{unwrap_or}
 use Rattle.std.proofs.lemmas.Bool.{cases_Bool, and_parts, and_from, leb-true, leb-false, false≢true}
 use Rattle.std.proofs.lemmas.Option.{same_Some}
@@ -8,7 +8,6 @@ use Rattle.sc_theory.specs.Chains.{Chain, positions}
 use Rattle.sc_theory.specs.Fatgraphs.{Sides}
 use Rattle.sc_theory.specs.Prices.{Prices, Tables, pairs}
 use Rattle.sc_theory.specs.Columns.{pair_at}
-use Rattle.sc_chain.specs.declared.fault.Kind.{Kind}
 use Rattle.sc_chain.specs.declared.fault.Kind.TheVariants.{Rest}
 use Rattle.sc_chain.specs.declared.polygon.Pivot.{Pivot}
 use Rattle.sc_text.specs.declared.limits.TheConstants.{MAX_COPIES, MAX_SIDES, MAX_PIVOTS}
@@ -19,11 +18,11 @@ use Rattle.sc_text.specs.Faults.{between, literal_fault, numbers_line_fault}
 use Rattle.sc_text.specs.Surfaces.{ending, count_line, side_row}
 use Rattle.sc_text.specs.PriceLines.{base_row, base_in, pair_row, pair_price_in}
 use Rattle.sc_text.specs.TableLines.{from_row, entries_in}
-use Rattle.sc_text.specs.Formats.{Format, told, a_line, due_line, side_in}
+use Rattle.sc_text.specs.Formats.{Format, told, due_line, side_in}
 use Rattle.sc_certificate.specs.PivotLines.{pivot_row, pivot_in}
 use Rattle.sc_certificate.specs.Sizes.{list_of}
 use Rattle.sc_certificate.specs.Certificates.{Certificate}
-use Rattle.sc_certificate.specs.Progress.{Counted, ListSoFar, BodySoFar, ChainAndValue, Steps, fault_due, text_due, count_due, items_due, scale_due, sides_due, list_due, tables_due, journal_due, body_due, is_whole, is_whole_list, is_whole_body}
+use Rattle.sc_certificate.specs.Progress.{Counted, ListSoFar, BodySoFar, ChainAndValue, Steps, fault_due, text_due, count_due, items_due, sides_due, list_due, tables_due, journal_due, body_due, is_whole, is_whole_list, is_whole_body}
 use Rattle.sc_certificate.proofs.DueLaws.{steps_along, count_step, text_step, items_all, items_some, counted_all, counted_some}
 
 -- a price list of which all was read

@@ -1,8 +1,7 @@
 -- The lines of a certificate in range are read, and tell it; and lines that are read are those of a certificate in range.
-use Rattle.std.proofs.Common.{◌≡◌, ℕ, zero, suc, ◌+◌, ◌-◌, ◌≤◌, true, List, [], ◌∷◌, ◌++◌, map, length, get_or, codes, ℤ, refl, sym, ap, subst, ◌∙◌, append_assoc, arith}
+use Rattle.std.proofs.Common.{◌≡◌, ℕ, ◌+◌, ◌-◌, ◌≤◌, List, [], ◌∷◌, ◌++◌, map, length, get_or, codes, ℤ, refl, sym, ap, subst, ◌∙◌, append_assoc, arith}
 use Rattle.std.specs.List.{AllByRecursion, zip, enumerate_from}
-use Rattle.std.proofs.lemmas.List.{length_push, get_or_at, append_cancel_right}
-use Rattle.sc_theory.specs.Words.{Word}
+use Rattle.std.proofs.lemmas.List.{length_push, get_or_at}
 use Rattle.sc_theory.specs.Chains.{Chain, positions}
 use Rattle.sc_theory.specs.Fatgraphs.{Sides}
 use Rattle.sc_theory.specs.Prices.{Prices, Tables, pairs}
@@ -11,21 +10,21 @@ use Rattle.sc_theory.proofs.ChainLaws.{positions-cons}
 use Rattle.sc_chain.specs.declared.polygon.Pivot.{Pivot}
 use Rattle.sc_chain.specs.declared.limits.TheConstants.{MAX_WORDS, MAX_POSITIONS}
 use Rattle.sc_text.specs.declared.limits.TheConstants.{MAX_COPIES, MAX_SIDES, MAX_PIVOTS}
-use Rattle.sc_text.specs.Lines.{Line, parts, text_of}
+use Rattle.sc_text.specs.Lines.{Line}
 use Rattle.sc_text.specs.Words.{word_line, IsWordInRange}
 use Rattle.sc_text.specs.Sides.{side_line, IsSideInRange}
-use Rattle.sc_text.specs.Faults.{between, numbers_line_fault, IsFaultless}
+use Rattle.sc_text.specs.Faults.{between, numbers_line_fault}
 use Rattle.sc_text.specs.Surfaces.{ending, count_line, count_in, words_lines, sides_lines, word_row, side_row, IsChainInRange}
 use Rattle.sc_text.specs.PriceLines.{scale_row, scale_in, scale_line, IsScaleInRange, base_row, base_in, base_line, pair_row, pair_price_in, pair_line, IsPriceInRange}
 use Rattle.sc_text.specs.ValueLines.{Quotient, value_row, value_in, value_line, IsValueInRange}
 use Rattle.sc_text.specs.TableLines.{Entry, from_row, entries_in, from_line, IsRowInRange}
-use Rattle.sc_text.specs.Formats.{Format, told, a_line, literal, count, lines_of, chain_lines, side_lines, price_lines, word_in, side_in, IsLineKind, FitsIn, IsCountInRange}
+use Rattle.sc_text.specs.Formats.{Format, told, a_line, literal, count, lines_of, chain_lines, side_lines, price_lines, word_in, side_in, FitsIn, IsCountInRange}
 use Rattle.sc_text.proofs.Faultless.{positions-push}
 use Rattle.sc_text.proofs.KindLaws.{count_kind, word_kind, side_kind, value_kind, scale_kind, base_kind, pair_kind, from_kind}
 use Rattle.sc_certificate.specs.PivotLines.{pivot_row, pivot_in, pivot_line, IsPivotInRange}
 use Rattle.sc_certificate.specs.Sizes.{IsSmallList, FitsCounts, list_of}
-use Rattle.sc_certificate.specs.Certificates.{Certificate, heading, list_lines, tables_lines, journal_lines, certificate_lines, certificate_text, certificate_format, certificate_plan, table_lines, pivot_lines, IsCertificateInRange}
-use Rattle.sc_certificate.proofs.FormatLaws.{Reads, reads_append, reads_once, told_is, lines_for, AllAfter, all_after, all_of, lines_map, AreKinds, reads_line, first_value, BeginsWithValue, reads_literal, first_literal, reads_lines, first_lines, reads_counted, first_counted, BeginsWithCounted, faultless_if_read, read_if_faultless}
+use Rattle.sc_certificate.specs.Certificates.{Certificate, heading, list_lines, tables_lines, journal_lines, certificate_lines, certificate_format, table_lines, pivot_lines, IsCertificateInRange}
+use Rattle.sc_certificate.proofs.FormatLaws.{Reads, reads_append, told_is, lines_for, AllAfter, all_after, all_of, lines_map, AreKinds, reads_line, first_value, reads_literal, first_literal, reads_lines, first_lines, reads_counted, first_counted}
 use Rattle.sc_certificate.proofs.PivotLaws.{pivot_kind}
 
 -- ---- the kinds of lines

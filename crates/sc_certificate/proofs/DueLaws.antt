@@ -1,14 +1,14 @@
 -- What is due of a part, after each of its lines and when all were read.
-use Rattle.std.proofs.Common.{◌≡◌, ℕ, zero, suc, ◌+◌, ◌-◌, ◌<◌, ◌≤◌, Bool, true, false, leb, List, [], ◌∷◌, ◌++◌, length, Option, Some, None, is_some, codes, refl, sym, ap, subst, ◌∙◌, arith}
+use Rattle.std.proofs.Common.{◌≡◌, ℕ, suc, ◌+◌, ◌-◌, ◌<◌, ◌≤◌, true, false, List, [], ◌∷◌, ◌++◌, length, Option, Some, None, is_some, refl, sym, ap, subst, ◌∙◌, arith}
 use Rattle.std.proofs.lemmas.Bool.{leb-true, leb-false, false≢true}
 use Rattle.std.proofs.lemmas.List.{length_push}
-use Rattle.std.proofs.lemmas.Option.{none-some, same_Some}
+use Rattle.std.proofs.lemmas.Option.{none-some}
 use Rattle.sc_chain.specs.declared.fault.Kind.{Kind}
 use Rattle.sc_text.specs.declared.fault.LineFault.{LineFault}
 use Rattle.sc_text.specs.LineFaults.{IsFault}
 use Rattle.sc_text.specs.Lines.{Line}
 use Rattle.sc_text.specs.Surfaces.{count_in, count_line}
-use Rattle.sc_text.specs.Formats.{Format, told, a_line, due_line, after_line, literal, lines_of, IsLineKind, IsCountInRange}
+use Rattle.sc_text.specs.Formats.{Format, a_line, due_line, after_line, lines_of, IsLineKind, IsCountInRange}
 use Rattle.sc_text.proofs.LineLaws.{lacks}
 use Rattle.sc_text.proofs.SurfaceLaws.{good_literal}
 use Rattle.sc_text.proofs.KindLaws.{count_kind}

@@ -1,21 +1,21 @@
 -- Laws of formats: which lines are read in a format, and when a text has no fault.
-use Rattle.std.proofs.Common.{◌≡◌, ◌≢◌, ℕ, zero, suc, ◌+◌, ◌≤◌, Bool, true, false, cond, eqb, List, [], ◌∷◌, ◌++◌, map, length, Option, Some, None, is_some, refl, sym, ap, subst, ◌∙◌, append_assoc, append-nil, arith, inl, inr}
+use Rattle.std.proofs.Common.{◌≡◌, ◌≢◌, ℕ, zero, suc, ◌≤◌, true, cond, eqb, List, [], ◌∷◌, ◌++◌, map, length, Option, Some, None, is_some, refl, sym, ap, subst, ◌∙◌, append_assoc, append-nil, arith, inl, inr}
 use Rattle.std.specs.List.{AllByRecursion}
 use Rattle.std.specs.Str.{bytes_eq}
 use Rattle.std.proofs.lemmas.Slice.Eq.{bytes_eq-Decides}
 use Rattle.std.proofs.lemmas.Bool.{cases_Bool, eqb-true, false≢true}
 use Rattle.std.proofs.lemmas.List.{nil_from_length, length_push}
-use Rattle.std.proofs.lemmas.Option.{none-some, same_Some}
+use Rattle.std.proofs.lemmas.Option.{none-some}
 use Rattle.sc_chain.specs.declared.fault.Kind.{Kind}
 use Rattle.sc_chain.specs.declared.fault.Kind.TheVariants.{Form, Ended, Rest}
-use Rattle.sc_text.specs.Lines.{Line, parts, text_of}
+use Rattle.sc_text.specs.Lines.{Line, parts}
 use Rattle.sc_text.specs.Faults.{between, literal_fault, numbers_line_fault, line_fault, part_fault, IsFaultless}
 use Rattle.sc_text.specs.Surfaces.{count_in, count_line}
 use Rattle.sc_text.specs.Formats.{Format, told, a_line, due_line, after_line, after_lines, plan_of, literal, count, lines_of, IsLineKind, IsCountInRange}
 use Rattle.sc_text.proofs.LineLaws.{split_some, lacks}
 use Rattle.sc_text.proofs.SurfaceLaws.{good_literal}
 use Rattle.sc_text.proofs.KindLaws.{count_kind}
-use Rattle.sc_text.proofs.FaultLaws.{HasRead, read_nothing, read_more, read_all, fault_at_part, ended_part}
+use Rattle.sc_text.proofs.FaultLaws.{HasRead, read_nothing, read_more, read_all, fault_at_part}
 
 -- ---- lines that are read in a format
 

@@ -1,7 +1,7 @@
 -- What a line of a price list and of a distance table does.
-use Rattle.std.proofs.Common.{◌≡◌, ℕ, ◌-◌, ◌*◌, ◌<◌, ◌≤◌, Bool, true, false, ◌&&◌, leb, List, [], ◌∷◌, ◌++◌, length, Option, Some, None, is_some, ℤ, refl, sym, ap, subst, ◌∙◌, arith, inl, inr}
+use Rattle.std.proofs.Common.{◌≡◌, ℕ, ◌*◌, ◌<◌, ◌≤◌, true, false, ◌&&◌, leb, List, [], ◌∷◌, ◌++◌, length, Option, Some, None, is_some, ℤ, sym, ap, subst, ◌∙◌, arith, inl, inr}
 use Rattle.std.proofs.Math.Nat.{mul-le-mul}
-use Rattle.std.proofs.lemmas.Bool.{and_from, and_parts, cases_Bool, cases_lt, le-leb, leb-true, leb-false, false≢true}
+use Rattle.std.proofs.lemmas.Bool.{and_from, cases_lt, le-leb, false≢true}
 use Rattle.std.proofs.lemmas.Option.{none-some}
 use Rattle.sc_theory.specs.Chains.{Chain, positions}
 use Rattle.sc_theory.specs.Prices.{Prices, Tables, pairs}
@@ -18,7 +18,7 @@ use Rattle.sc_text.specs.TableLines.{Entry, from_row, entries_in, from_line, IsR
 use Rattle.sc_text.specs.Formats.{Format}
 use Rattle.sc_text.proofs.KindLaws.{scale_kind, base_kind, pair_kind, from_kind}
 use Rattle.sc_certificate.specs.Sizes.{list_of}
-use Rattle.sc_certificate.specs.Progress.{ListSoFar, Steps, fault_due, items_due, scale_due, list_due, tables_due, is_whole_list}
+use Rattle.sc_certificate.specs.Progress.{ListSoFar, Steps, fault_due, items_due, list_due, tables_due, is_whole_list}
 use Rattle.sc_certificate.proofs.DueLaws.{steps_along, line_step, items_step, items_fault, items_all}
 
 -- ---- how many pairs there are

@@ -1,7 +1,6 @@
 -- The lines of pivots without a fault are those of the pivots in range.
-use Rattle.std.proofs.Common.{◌≡◌, ℕ, zero, suc, ◌+◌, ◌<◌, ◌≤◌, Bool, true, false, ◌&&◌, cond, List, [], ◌∷◌, ◌++◌, map, length, drop, get_or, Option, Some, None, is_some, codes, ℤ, pos, negsuc, refl, sym, ap, subst, ◌∙◌, arith, inl, inr}
-use Rattle.std.specs.Prelude.{int_le, int_lt}
-use Rattle.std.specs.List.{list_all}
+use Rattle.std.proofs.Common.{◌≡◌, ℕ, zero, suc, ◌+◌, ◌<◌, ◌≤◌, true, false, ◌&&◌, List, [], ◌∷◌, ◌++◌, map, length, get_or, Option, Some, None, is_some, codes, ℤ, pos, negsuc, refl, sym, ap, subst, ◌∙◌, arith, inl, inr}
+use Rattle.std.specs.Prelude.{int_lt}
 use Rattle.std.specs.Option.{option_map_or}
 use Rattle.std.proofs.lemmas.Bool.{cases_Bool, and_parts, and_from, false≢true}
 use Rattle.std.proofs.lemmas.Bool.Decides.{nat_tests}
@@ -22,7 +21,7 @@ use Rattle.sc_text.specs.declared.fault.LineFault.{LineFault}
 use Rattle.sc_text.specs.declared.fault.LineFault.TheVariants.{Malformed, Memory}
 use Rattle.sc_text.specs.LineFaults.{IsFault}
 use Rattle.sc_text.specs.Faults.{between}
-use Rattle.sc_text.specs.Lines.{Line, Field, fields, spaced, number_of, first_number, IsNarrowed, TellsNumber, TakesNumber}
+use Rattle.sc_text.specs.Lines.{Line, Field, fields, number_of, first_number, IsNarrowed, TellsNumber, TakesNumber}
 use Rattle.sc_text.specs.Formats.{IsLineKind}
 use Rattle.sc_text.proofs.LineLaws.{AllLack, fields-spaced, lacks-spelling, number_of-spelling, number_of_is, number_of_from, named_is, taken_is, line_from_fields}
 use Rattle.sc_text.proofs.WordLaws.{between-natural}

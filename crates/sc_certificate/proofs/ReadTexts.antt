@@ -1,6 +1,6 @@
 -- The text of which the lines were read by a reader.
-use Rattle.std.proofs.Common.{◌≡◌, ◌≢◌, ℕ, suc, ◌+◌, Bool, true, false, cond, eqb, List, [], ◌∷◌, ◌++◌, length, Some, None, Result, Ok, Err, refl, sym, ap, subst, ◌∙◌, append_assoc, arith}
-use Rattle.std.specs.Prelude.{IfOk, IfErr}
+use Rattle.std.proofs.Common.{◌≡◌, ◌≢◌, ℕ, ◌+◌, Bool, false, cond, eqb, List, [], ◌∷◌, ◌++◌, length, Some, None, Result, Ok, Err, refl, sym, ap, subst, ◌∙◌, arith}
+use Rattle.std.specs.Prelude.{IfOk}
 use Rattle.std.proofs.lemmas.Bool.{ne_eqb}
 use Rattle.std.proofs.lemmas.List.{length_push}
 use Rattle.std.proofs.lemmas.Option.{none-some}
@@ -10,11 +10,11 @@ use Rattle.sc_chain.specs.declared.fault.TextFault.{TextFault}
 use Rattle.sc_chain.specs.declared.fault.TextFault.TheVariants as text_faults
 use Rattle.sc_text.specs.declared.fault.LineFault.{LineFault}
 use Rattle.sc_text.specs.LineFaults.{IsFault, at_line}
-use Rattle.sc_text.specs.Lines.{Line, parts, text_of}
-use Rattle.sc_text.specs.Faults.{line_fault, part_fault, fault_at, IsFaultless, IsFaultOf}
-use Rattle.sc_text.specs.Formats.{Format, told, a_line, after_line, after_lines, plan_of}
-use Rattle.sc_text.proofs.LineLaws.{text_from_parts, split_some}
-use Rattle.sc_text.proofs.FaultLaws.{HasRead, read_nothing, read_more, read_all, fault_at_line, first_fault_here}
+use Rattle.sc_text.specs.Lines.{Line, parts}
+use Rattle.sc_text.specs.Faults.{line_fault, part_fault, IsFaultless, IsFaultOf}
+use Rattle.sc_text.specs.Formats.{Format, told, a_line, after_lines}
+use Rattle.sc_text.proofs.LineLaws.{text_from_parts}
+use Rattle.sc_text.proofs.FaultLaws.{HasRead, read_nothing, read_more, fault_at_line, first_fault_here}
 use Rattle.sc_certificate.specs.Certificates.{Certificate, certificate_text, certificate_lines, certificate_format, certificate_plan, IsCertificateInRange}
 use Rattle.sc_certificate.specs.Progress.{Progress, Steps, fault_due, end_fault, due_of, lines_read}
 use Rattle.sc_certificate.proofs.FormatLaws.{Reads, reads_append, reads_after, line_fault_of, end_when_told, end_when_due}

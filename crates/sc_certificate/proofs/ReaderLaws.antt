@@ -1,5 +1,5 @@
 -- What a line of a certificate does.
-use Rattle.std.proofs.Common.{◌≡◌, ℕ, ◌-◌, Bool, true, false, eqb, List, [], ◌∷◌, ◌++◌, length, Option, Some, None, is_some, codes, refl, sym, ap, subst, ◌∙◌, arith, inl, inr}
+use Rattle.std.proofs.Common.{◌≡◌, ℕ, ◌-◌, Bool, true, false, eqb, List, [], ◌∷◌, length, Option, Some, None, is_some, codes, refl, sym, ap, subst, ◌∙◌, arith, inl, inr}
 use Rattle.std.specs.Prelude.{IfSome, IfNone}
 use Rattle.std.proofs.lemmas.Bool.{cases_Bool, false≢true}
 use Rattle.sc_theory.specs.Words.{Word}
@@ -13,7 +13,6 @@ use Rattle.sc_text.specs.PriceLines.{scale_row, scale_in, base_row, base_in, pai
 use Rattle.sc_text.specs.TableLines.{from_row, entries_in}
 use Rattle.sc_certificate.specs.PivotLines.{pivot_row, pivot_in}
 use Rattle.sc_certificate.specs.Sizes.{list_of}
-use Rattle.sc_chain.specs.declared.fault.Kind.{Kind}
 use Rattle.sc_chain.specs.declared.fault.Kind.TheVariants.{Ended, Rest}
 use Rattle.sc_chain.specs.declared.limits.TheConstants.{MAX_WORDS, MAX_POSITIONS}
 use Rattle.sc_text.specs.declared.fault.LineFault.{LineFault}

@@ -1,5 +1,5 @@
 -- Numbers, lists and tables in their ranges, by tests.
-use Rattle.std.proofs.Common.{◌≡◌, ◌↔◌, ℕ, Bool, true, false, ◌&&◌, List, [], ◌∷◌, Option, Some, None, ℤ, pos, neg_ℤ, ◌≤ℤ◌, refl, arith, IsTrue}
+use Rattle.std.proofs.Common.{◌≡◌, ◌↔◌, Bool, true, ◌&&◌, List, [], ◌∷◌, Option, Some, None, ℤ, pos, neg_ℤ, refl, IsTrue}
 use Rattle.std.specs.Option.{option_map_or}
 use Rattle.std.specs.List.{AllByRecursion, list_all}
 use Rattle.sc_text.specs.declared.limits.TheConstants.{MAX_PRICE, MAX_ENTRY}

@@ -1,24 +1,24 @@
 -- The text of a certificate: no line has a line feed, so the lines are the parts of the text, and the laws.
-use Rattle.std.proofs.Common.{◌≡◌, ℕ, ◌<◌, true, List, [], ◌∷◌, ◌++◌, map, length, codes, Some, None, ℤ, pos, refl, sym, ap, subst, ◌∙◌, arith}
-use Rattle.std.specs.List.{AllByRecursion, zip, enumerate_from}
+use Rattle.std.proofs.Common.{◌≡◌, ℕ, true, List, [], ◌∷◌, ◌++◌, map, length, codes, Some, None, ℤ, pos, refl, sym, ap, subst, ◌∙◌, arith}
+use Rattle.std.specs.List.{enumerate_from}
 use Rattle.std.proofs.lemmas.List.{append_cancel_right}
 use Rattle.sc_whole.specs.Spelling.{spelling}
 use Rattle.sc_theory.specs.declared.Side.{Side}
 use Rattle.sc_theory.specs.Words.{Word}
 use Rattle.sc_chain.specs.declared.polygon.Pivot.{Pivot}
-use Rattle.sc_text.specs.Lines.{Line, Field, parts, text_of, spaced, numbers_line}
+use Rattle.sc_text.specs.Lines.{Line, Field, parts, spaced, numbers_line}
 use Rattle.sc_text.specs.Words.{word_line, spelled}
 use Rattle.sc_text.specs.Sides.{side_line}
 use Rattle.sc_text.specs.Faults.{IsFaultless}
-use Rattle.sc_text.specs.Surfaces.{ending, count_line, words_lines, sides_lines}
-use Rattle.sc_text.specs.PriceLines.{scale_line, base_line, pair_line}
+use Rattle.sc_text.specs.Surfaces.{words_lines, sides_lines}
+use Rattle.sc_text.specs.PriceLines.{base_line, pair_line}
 use Rattle.sc_text.specs.ValueLines.{Quotient, value_line}
 use Rattle.sc_text.specs.TableLines.{Entry, entry_field, from_line}
 use Rattle.sc_text.specs.Formats.{told}
 use Rattle.sc_text.proofs.LineLaws.{lacks, AllLack, lacks-append, lacks-spelling, parts-text_of, text_from_parts}
 use Rattle.sc_text.proofs.WordLaws.{lacks-spelled}
 use Rattle.sc_certificate.specs.PivotLines.{pivot_line}
-use Rattle.sc_certificate.specs.Certificates.{Certificate, heading, list_lines, tables_lines, journal_lines, certificate_lines, certificate_text, certificate_format, certificate_plan, IsCertificateInRange}
+use Rattle.sc_certificate.specs.Certificates.{Certificate, list_lines, tables_lines, journal_lines, certificate_lines, certificate_text, certificate_format, certificate_plan, IsCertificateInRange}
 use Rattle.sc_certificate.proofs.FormatLaws.{Reads, reads_once, told_is, faultless_if_read, read_if_faultless}
 use Rattle.sc_certificate.proofs.CertificateLaws.{reads_certificate, of_certificate}
 

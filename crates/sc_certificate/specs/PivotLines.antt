@@ -1,5 +1,5 @@
 -- The line of a pivot.
-use Rattle.std.specs.Prelude.{◌≡◌, ◌≢◌, ℕ, ◌<◌, ◌≤◌, Bool, true, false, ◌&&◌, List, [], ◌∷◌, map, drop, get_or, Option, Some, None, is_some, if◌then◌else◌, ℤ, pos, negsuc, int_le, int_lt, codes}
+use Rattle.std.specs.Prelude.{◌≢◌, ℕ, ◌<◌, ◌≤◌, Bool, false, ◌&&◌, List, [], ◌∷◌, map, drop, Option, Some, None, is_some, if◌then◌else◌, pos, int_le, int_lt, codes}
 use Rattle.std.specs.List.{list_all}
 use Rattle.std.specs.Option.{option_map_or}
 use Rattle.sc_whole.specs.Spelling.{spelling}

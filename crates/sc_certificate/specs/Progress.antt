@@ -1,5 +1,5 @@
 -- What was read of a certificate text, and what is due after it.
-use Rattle.std.specs.Prelude.{◌≡◌, ℕ, ◌+◌, ◌-◌, ◌≤◌, Bool, true, false, ◌&&◌, nat_le, if◌then◌else◌, List, [], ◌∷◌, length, Option, Some, None, is_some, ℤ, codes}
+use Rattle.std.specs.Prelude.{◌≡◌, ℕ, ◌+◌, ◌-◌, Bool, true, false, ◌&&◌, nat_le, if◌then◌else◌, List, [], ◌∷◌, length, Option, Some, None, is_some, ℤ, codes}
 use Rattle.std.specs.Option.{option_map_or}
 use Rattle.sc_theory.specs.declared.Side.{Side}
 use Rattle.sc_theory.specs.Words.{Word}
@@ -17,7 +17,7 @@ use Rattle.sc_text.specs.Surfaces.{ending, word_row, side_row}
 use Rattle.sc_text.specs.PriceLines.{scale_row, scale_in, base_row, base_in, pair_row, pair_price_in}
 use Rattle.sc_text.specs.ValueLines.{Quotient, value_row, value_in}
 use Rattle.sc_text.specs.TableLines.{from_row, entries_in}
-use Rattle.sc_text.specs.Formats.{Format, told, a_line, due_line, after_line, literal, count, lines_of, word_in, side_in}
+use Rattle.sc_text.specs.Formats.{Format, told, a_line, after_line, literal, count, lines_of, word_in, side_in}
 use Rattle.sc_certificate.specs.PivotLines.{pivot_row, pivot_in}
 use Rattle.sc_certificate.specs.Sizes.{list_of}
 use Rattle.sc_certificate.specs.Certificates.{Certificate, heading}

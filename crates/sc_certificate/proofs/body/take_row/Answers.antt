@@ -1,9 +1,7 @@
 use Rattle.std.proofs.Common.{◌≡◌, ◌<◌, ◌∙◌, ℕ, List, ◌∷◌, ◌++◌, [], length, sym, ap, subst}
 use Rattle.std.proofs.lemmas.Result.{err_from_is_err_and}
 use Rattle.sc_theory.specs.Prices.{Tables}
-use Rattle.sc_text.specs.Lines.{Line}
-use Rattle.sc_text.specs.LineFaults.{IsFault}
-use Rattle.sc_text.specs.TableLines.{from_row, from_line, IsRowInRange}
+use Rattle.sc_text.specs.TableLines.{from_line, IsRowInRange}
 use Rattle.sc_certificate.specs.Progress.{Steps, tables_due}
 use Rattle.sc_certificate.proofs.ListLaws.{tables_step, tables_fault}
 use Rattle.sc_certificate.proofs.body.take_row.Goals as goal

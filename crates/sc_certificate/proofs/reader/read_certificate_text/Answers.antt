@@ -1,9 +1,7 @@
-use Rattle.std.proofs.Common.{◌∙◌, sym}
-use Rattle.std.proofs.lemmas.Result.{IfOk-weaker, IfErr-weaker}
+use Rattle.std.proofs.lemmas.Result.{IfErr-weaker}
 use Rattle.sc_text.proofs.FaultLaws.{answered}
 use Rattle.sc_certificate.specs.Certificates.{certificate_plan}
 use Rattle.sc_certificate.specs.Texts.{certificate_of}
-use Rattle.sc_certificate.proofs.TextLaws.{text_is_of_one}
 use Rattle.sc_certificate.proofs.ReadTexts.{only_memory_fails, same_certificate}
 use Rattle.sc_certificate.proofs.reader.read_certificate_text.Goals as goal
 

@@ -1,5 +1,4 @@
 use Rattle.std.proofs.Common.{◌≡◌, ◌∙◌, ℤ, Some, refl, sym}
-use Rattle.sc_certificate.specs.Sizes.{list_of}
 use Rattle.sc_certificate.specs.Texts.{certificate_of}
 use Rattle.sc_certificate.proofs.BodyLaws.{unfinished, told_by_parts}
 use Rattle.sc_certificate.proofs.body.Body.finish.Goals as goal

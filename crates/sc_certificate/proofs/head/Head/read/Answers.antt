@@ -1,4 +1,4 @@
-use Rattle.sc_text.specs.ValueLines.{Quotient, value_row, value_in, value_line, quotient_of, IsValueInRange}
+use Rattle.sc_text.specs.ValueLines.{value_row, value_in, value_line, quotient_of, IsValueInRange}
 use Rattle.sc_text.proofs.KindLaws.{value_kind}
 use Rattle.sc_certificate.proofs.DueLaws.{line_step}
 use Rattle.sc_certificate.proofs.head.Head.read.Goals as goal

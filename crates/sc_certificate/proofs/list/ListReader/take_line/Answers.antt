@@ -1,9 +1,8 @@
-use Rattle.std.proofs.Common.{◌≡◌, ◌∙◌, ◌<◌, ◌≤◌, ◌*◌, ◌++◌, ◌∷◌, [], ℕ, List, length, get_or, Some, FitsSigned, to_z-of_z, rules, sym, ap, subst, arith}
+use Rattle.std.proofs.Common.{◌≡◌, ◌∙◌, ◌<◌, ◌≤◌, ◌*◌, ◌++◌, ◌∷◌, [], List, length, get_or, FitsSigned, to_z-of_z, rules, sym, ap, subst, arith}
 use Rattle.std.specs.Int.{w128}
 use Rattle.std.specs.List.{AllByRecursion}
 use Rattle.std.proofs.lemmas.List.{length_push}
 use Rattle.std.proofs.lemmas.Result.{err_from_is_err_and}
-use Rattle.sc_theory.specs.Chains.{Chain}
 use Rattle.sc_theory.specs.Prices.{pairs}
 use Rattle.sc_theory.specs.Columns.{pair_at}
 use Rattle.sc_chain.specs.declared.limits.TheConstants.{MAX_POSITIONS}

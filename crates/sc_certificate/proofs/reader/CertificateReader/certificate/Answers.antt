@@ -1,4 +1,4 @@
-use Rattle.std.proofs.Common.{◌≡◌, ◌∙◌, true, Option, Some, is_some, sym, ap}
+use Rattle.std.proofs.Common.{◌≡◌, ◌∙◌, true, Option, is_some, sym, ap}
 use Rattle.std.specs.Option.{option_map}
 use Rattle.sc_text.specs.ValueLines.{Quotient}
 use Rattle.sc_text.specs.Formats.{told, due_line}
