@@ -1,5 +1,5 @@
 -- With its status, the text of an answer is determined too.
-use Rattle.std.proofs.Common.{◌≡◌, ℕ, suc, ◌*◌, ◌<◌, ◌≤◌, ◌⊎◌, inl, inr, List, [], length, ℤ, pos, ◌*ℤ◌, refl, ap, ap₂, ◌∙◌, subst, sym, arith}
+use Rattle.std.proofs.Common.{◌≡◌, ℕ, ◌*◌, ◌<◌, inl, inr, List, ℤ, pos, ◌*ℤ◌, ap, ap₂, ◌∙◌, subst, sym, arith}
 use Rattle.std.proofs.lemmas.Bool.{cases_lt}
 use Rattle.std.proofs.lemmas.Int.{ints}
 use Rattle.sc_algebra.proofs.Ints.{cancel_factor, products}
@@ -22,7 +22,7 @@ use Rattle.sc_app.specs.declared.status.What.TheVariants.{Bytes, Words, Position
 use Rattle.sc_app.specs.Surface.{SurfaceResponds, report}
 use Rattle.sc_app.specs.Check.{CheckResponds, optimal}
 use Rattle.sc_app.specs.Scl.{SclResponds, infinite}
-use Rattle.sc_app.specs.Answers.{limit_of, Responds, AnswersTo}
+use Rattle.sc_app.specs.Answers.{Responds, AnswersTo}
 use Rattle.sc_app.proofs.Inputs.{same_certificate, same_surface}
 
 -- ---- surfaces
