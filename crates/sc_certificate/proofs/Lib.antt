@@ -5,7 +5,6 @@ pub mod CertificateLaws
 pub mod TextLaws
 pub mod DueLaws
 pub mod PartLaws
-pub mod ReadChains
 pub mod ListLaws
 pub mod BodyLaws
 pub mod ReaderLaws
