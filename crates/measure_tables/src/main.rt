@@ -68,7 +68,12 @@ fn count_tables(alloc: Global, chain: &Chain, prices: &StepPrices<Pair>) -> u32
 {
     let mut count = 0_u32;
     for _call in 0..CALLS {
-        if let Ok(Found::Tables(_)) = cheap_polygon(alloc, chain, prices, &Pair { bulk: 0, fine: 1 }) {
+        if let Ok(Found::Tables(_)) = cheap_polygon(
+            alloc,
+            chain,
+            prices,
+            &Pair { bulk: 0, fine: 1 },
+        ) {
             count = count.wrapping_add(1);
         }
     }
