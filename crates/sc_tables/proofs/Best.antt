@@ -1,5 +1,5 @@
 -- The cheapest walk with a step to a position, one walk after another.
-use Rattle.std.proofs.Common.{◌≡◌, ℕ, suc, ◌+◌, ◌<◌, ◌≤◌, List, length, Option, Some, None, IfSome, IfNone, is_some, false, ◌⊎◌, slice_get, arith, refl, sym, ap, subst, ◌∙◌, inl, inr}
+use Rattle.std.proofs.Common.{◌≡◌, ℕ, ◌+◌, ◌<◌, ◌≤◌, List, length, Option, Some, None, IfSome, IfNone, is_some, false, ◌⊎◌, slice_get, arith, sym, ap, subst, ◌∙◌, inl, inr}
 use Rattle.std.proofs.lemmas.Bool.{cases_lt}
 use Rattle.std.proofs.lemmas.Option.{slice_get_within}
 use Rattle.sc_weight.specs.Levels.{Levels, levels_sum}
@@ -50,7 +50,7 @@ module _ {W : Type 0} (levels : W → Levels) (t : Square W) (nodes : List (Node
         covers = λ n x w from below here step. elim (cases_lt n k) [
           | inl before ↦ by_best best r _ below_best (is.covers n x w from before here step)
           | inr last ↦ (let at : n ≡ k = omega arith in at_last next r found none below_next x w (subst (λ (m : ℕ). slice_get nodes m ≡ Some x) at here) step)
-        ]
+        ];
       }
 
 pub covers_below : {W : Type 0} (levels : W → Levels) (t : Square W) (nodes : List (Node W)) (fresh k end j : ℕ) (best : Option (Candidate W)) → end ≤ k → Covers levels t nodes fresh k j best → Covers levels t nodes fresh end j best
@@ -84,7 +84,7 @@ module _ {W : Type 0} (levels : W → Levels) (t : Square W) (nodes : List (Node
   pub reach_from : (found : Option (Candidate W)) (b : Candidate W) → found ≡ Some b → Covers levels t nodes fresh (length nodes) s found → IsAtMost threshold (levels b.total) → AllReach levels t nodes threshold fresh s
   reach_from found b e covers high n x w from here step =
       let low : IsAtMost (levels b.total) (levels_sum (levels x.total) (levels w)) =
-        subst (λ (o : Option (Candidate W)). Under levels o (levels_sum (levels x.total) (levels w))) e (covers n x w from (slice_get_within nodes n x here) here step) in
+      subst (λ (o : Option (Candidate W)). Under levels o (levels_sum (levels x.total) (levels w))) e (covers n x w from (slice_get_within nodes n x here) here step) in
       at_most-trans threshold (levels b.total) _ high low
 
   pub reach_none : (found : Option (Candidate W)) → found ≡ None → Covers levels t nodes fresh (length nodes) s found → AllReach levels t nodes threshold fresh s

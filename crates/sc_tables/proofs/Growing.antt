@@ -1,13 +1,11 @@
 -- A list of walks that grows at its end.
-use Rattle.std.proofs.Common.{◌≡◌, ◌≢◌, ◌⊎◌, ℕ, zero, suc, ◌+◌, ◌<◌, ◌≤◌, List, [], ◌∷◌, ◌++◌, length, get_or, slice_get, Option, Some, None, arith, refl, sym, ap, subst, ◌∙◌, inl, inr, length-append, IfSome, true, false}
-use Rattle.std.proofs.lemmas.Bool.{cases_lt}
-use Rattle.std.proofs.lemmas.Option.{slice_get_within}
+use Rattle.std.proofs.Common.{◌≡◌, ◌≢◌, ◌⊎◌, ℕ, zero, suc, ◌<◌, ◌≤◌, List, [], ◌∷◌, ◌++◌, length, slice_get, Option, Some, None, arith, refl, sym, ap, subst, ◌∙◌, inl, inr, length-append}
 use Rattle.sc_weight.specs.Levels.{Levels, levels_sum}
-use Rattle.sc_tables.specs.Squares.{Square, cell}
+use Rattle.sc_tables.specs.Squares.{Square}
 use Rattle.sc_tables.specs.Totals.{IsBelow, IsAtMost}
 use Rattle.sc_tables.specs.declared.search.Node.{Node}
 use Rattle.sc_tables.specs.declared.search.Candidate.{Candidate}
-use Rattle.sc_tables.specs.Searches.{ArePlaced, IsCandidate, Under, Covers, Extends, AreWalks, IsGrowing, Grows, IsEnd, Lower, IsNext}
+use Rattle.sc_tables.specs.Searches.{ArePlaced, IsCandidate, Covers, Extends, IsGrowing, Grows, IsEnd, Lower, IsNext}
 use Rattle.sc_tables.proofs.Order.{at_most-refl, at_most-trans, at_most_from_below}
 use Rattle.sc_tables.proofs.Best.{same_item}
 
@@ -71,12 +69,12 @@ next-grows levels t old new fresh end s j before o within entry g is =
       placed = end_within new (length old) (length new) j o g.len (end-grows old new (length old) j o g is.placed);
       old = is.old;
       kept = λ n x e here.
-        (let inside : n < length old = omega (arith, entry n e) in
-        lower-grows levels old new o (levels x.total) g (is.kept n x e (item_before old new n x g inside here)));
+          (let inside : n < length old = omega (arith, entry n e) in
+          lower-grows levels old new o (levels x.total) g (is.kept n x e (item_before old new n x g inside here)));
       covers = λ other n x w from below here step.
-        (let inside : n < length old = omega arith in
-        lower-grows levels old new o (levels_sum (levels x.total) (levels w)) g (is.covers other n x w from below (item_before old new n x g inside here) step));
-      start = is.start
+          (let inside : n < length old = omega arith in
+          lower-grows levels old new o (levels_sum (levels x.total) (levels w)) g (is.covers other n x w from below (item_before old new n x g inside here) step));
+      start = is.start;
     }
 
 -- ---- an entry that stays, and one that is replaced
@@ -96,7 +94,7 @@ module _ {W : Type 0} (levels : W → Levels) (t : Square W) (nodes : List (Node
         old = λ n e below. e;
         kept = itself;
         covers = λ other n x w from below here step. absurd (other at);
-        start = λ _. refl
+        start = λ _. refl;
       }
 
   -- none was found
@@ -107,7 +105,7 @@ module _ {W : Type 0} (levels : W → Levels) (t : Square W) (nodes : List (Node
         old = λ n e below. e;
         kept = itself;
         covers = λ other n x w from below here step. absurd (covers n x w from below here step);
-        start = λ _. refl
+        start = λ _. refl;
       }
 
   -- the entry is at most what was found
@@ -119,7 +117,7 @@ module _ {W : Type 0} (levels : W → Levels) (t : Square W) (nodes : List (Node
         old = λ n e below. e;
         kept = itself;
         covers = λ other n x w from below here step. rw is (y, at, at_most-trans (levels y.total) (levels best.total) _ low (covers n x w from below here step));
-        start = λ _. refl
+        start = λ _. refl;
       }
 
   -- a new walk takes its place
@@ -133,12 +131,12 @@ module _ {W : Type 0} (levels : W → Levels) (t : Square W) (nodes : List (Node
         placed = (y, omega (arith, length-append nodes (y ∷ [])), item_last nodes y, refl);
         old = λ n e below. (let same : length nodes ≡ n = same_item (length nodes) n (Some (length nodes)) refl e in absurd (omega arith));
         kept = λ n x e here.
-          (let inside : n < length nodes = omega (arith, entry_below before n e entry) in
-          (y, item_last nodes y, at_most_from_below (levels best.total) (levels x.total) (better n x e (item_before nodes _ n x g inside here))));
+            (let inside : n < length nodes = omega (arith, entry_below before n e entry) in
+            (y, item_last nodes y, at_most_from_below (levels best.total) (levels x.total) (better n x e (item_before nodes _ n x g inside here))));
         covers = λ away n x w from below here step.
-          (let inside : n < length nodes = omega arith in
-          (y, item_last nodes y, covers n x w from below (item_before nodes _ n x g inside here) step));
-        start = λ at. absurd (other at)
+            (let inside : n < length nodes = omega arith in
+            (y, item_last nodes y, covers n x w from below (item_before nodes _ n x g inside here) step));
+        start = λ at. absurd (other at);
       }
 
 -- ---- the list with a new walk
@@ -151,10 +149,10 @@ walks_last {W} levels t nodes s steps end j best inside other old is g =
         first = λ x here. g.walks.first x (item_before nodes _ 0 x grown g.walks.some here);
         later = later;
         placed = placed;
-        few = few
+        few = few;
       };
       within = omega (arith, g.within, grown.len);
-      before = λ n x below here. g.before n x below (item_before nodes _ n x grown (omega (arith, g.within)) here)
+      before = λ n x below here. g.before n x below (item_before nodes _ n x grown (omega (arith, g.within)) here);
     }
   where
     y : Node W
@@ -173,7 +171,10 @@ walks_last {W} levels t nodes s steps end j best inside other old is g =
     later n x here = elim (item_cases nodes y (suc n) x here) [
       | inl front ↦ (let (m, earlier, at, extends) = g.walks.later n x front in (m, earlier, grown.same x.before m at, extends))
       | inr last ↦
-          subst (λ (z : Node W). (m : Node W) × (z.before ≤ n) × (slice_get (nodes ++ y ∷ []) z.before ≡ Some m) × Extends levels t s m z) last.1
-          (is.here, omega (arith, last.0, g.within), grown.same best.node is.here is.here_is,
-            record { price = is.price; step = is.step; total = is.total; away = λ e. other (sym e); steps = g.before best.node is.here old is.here_is })
+          subst (λ (z : Node W). (m : Node W) × (z.before ≤ n) × (slice_get (nodes ++ y ∷ []) z.before ≡ Some m) × Extends levels t s m z) last.1 (
+            is.here,
+            omega (arith, last.0, g.within),
+            grown.same best.node is.here is.here_is,
+            record { price = is.price; step = is.step; total = is.total; away = λ e. other (sym e); steps = g.before best.node is.here old is.here_is },
+          )
     ]

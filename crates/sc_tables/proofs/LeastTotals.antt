@@ -1,11 +1,11 @@
 -- Tables of least totals vouch for a threshold that every closed walk reaches.
-use Rattle.std.proofs.Common.{◌≡◌, ◌≢◌, ℕ, ◌<◌, List, [], ◌∷◌, ◌++◌, ℤ, pos, ◌+ℤ◌, Option, Some, None, arith, refl, sym, ap, subst, ◌∙◌}
+use Rattle.std.proofs.Common.{◌≡◌, ◌≢◌, ℕ, List, [], ◌∷◌, ◌++◌, ℤ, pos, ◌+ℤ◌, Option, Some, None, arith, refl, sym, ap, subst, ◌∙◌}
 use Rattle.std.specs.List.{AllByRecursion}
 use Rattle.std.proofs.lemmas.Int.{ints}
-use Rattle.sc_theory.specs.Chains.{Chain, positions}
+use Rattle.sc_theory.specs.Chains.{Chain}
 use Rattle.sc_theory.specs.Walks.{IsStep, total_back}
 use Rattle.sc_weight.specs.Levels.{Levels, zero_levels, levels_sum}
-use Rattle.sc_tables.specs.Walks.{WalksAlong, end_of, LeadsTo}
+use Rattle.sc_tables.specs.Walks.{end_of, LeadsTo}
 use Rattle.sc_tables.specs.Totals.{bulk_of, fine_of, total_along, open_total, closed_total, IsBelow, IsAtMost}
 use Rattle.sc_tables.specs.Tables.{AllAtLeast, IsLeast, IsLeastTotal, AreLeastTotals, VouchFor}
 use Rattle.sc_tables.proofs.WalkLaws.{walks-append, walks_back, end_of-append, total_along-append, total_back-is}
@@ -27,7 +27,7 @@ leads-step c s i j js leads step away =
     record {
       walks = walks-append c s js (j ∷ []) leads.walks (subst (λ (k : ℕ). IsStep c k j) (sym leads.ends) step, tt);
       away = all-append (λ k. s ≢ k) js (j ∷ []) leads.away (away, tt);
-      ends = end_of-append s js (j ∷ [])
+      ends = end_of-append s js (j ∷ []);
     }
 
 total-back : (f : ℕ → ℕ → ℤ) (s : ℕ) (js : List ℕ) (i : ℕ) → end_of s js ≡ i → total_back f s s js ≡ total_along f s js +ℤ f i s
@@ -69,11 +69,11 @@ module _ (c : Chain) (price : ℕ → ℕ → Levels) where
       record {
         starts = λ s inside. at_start s (entry s s) (least s s inside inside);
         goes = λ s i j a inside step present other.
-          (let (js, leads, total) = (is_reached s i (entry s i) a present (least s i inside step.from)).reached in
-          let (b, is, low) = reaches s j (entry s j) (least s j inside step.to) (js ++ j ∷ []) (leads-step c s i j js leads step (λ e. other (sym e))) in
-          (b, is, subst (IsAtMost b) (open_total-step price s js i j leads.ends ∙ ap (λ (t : Levels). levels_sum t (price i j)) total) low));
+            (let (js, leads, total) = (is_reached s i (entry s i) a present (least s i inside step.from)).reached in
+            let (b, is, low) = reaches s j (entry s j) (least s j inside step.to) (js ++ j ∷ []) (leads-step c s i j js leads step (λ e. other (sym e))) in
+            (b, is, subst (IsAtMost b) (open_total-step price s js i j leads.ends ∙ ap (λ (t : Levels). levels_sum t (price i j)) total) low));
         returns = λ s i a inside step present.
-          (let (js, leads, total) = (is_reached s i (entry s i) a present (least s i inside step.from)).reached in
-          let closed = walks_back c s s js leads.walks (subst (λ (k : ℕ). IsStep c k s) (sym leads.ends) step) in
-          subst (IsAtMost threshold) (closed_total-back price s js i leads.ends ∙ ap (λ (t : Levels). levels_sum t (price i s)) total) (all (s ∷ js) closed))
+            (let (js, leads, total) = (is_reached s i (entry s i) a present (least s i inside step.from)).reached in
+            let closed = walks_back c s s js leads.walks (subst (λ (k : ℕ). IsStep c k s) (sym leads.ends) step) in
+            subst (IsAtMost threshold) (closed_total-back price s js i leads.ends ∙ ap (λ (t : Levels). levels_sum t (price i s)) total) (all (s ∷ js) closed));
       }

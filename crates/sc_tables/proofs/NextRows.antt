@@ -1,5 +1,5 @@
 -- The entries of a row, one after another.
-use Rattle.std.proofs.Common.{◌≡◌, ℕ, suc, ◌+◌, ◌<◌, ◌≤◌, List, [], ◌∷◌, ◌++◌, length, get_or, Option, Some, None, arith, refl, sym, ap, subst, ◌∙◌, inl, inr, length-append, add-one}
+use Rattle.std.proofs.Common.{◌≡◌, ℕ, ◌+◌, ◌<◌, List, [], ◌∷◌, ◌++◌, length, get_or, Option, Some, None, arith, refl, sym, ap, subst, ◌∙◌, inl, inr, length-append}
 use Rattle.std.proofs.Math.Seq.{get_or-append_seam}
 use Rattle.std.proofs.lemmas.Bool.{cases_lt}
 use Rattle.std.proofs.lemmas.List.{get_or_append_left}
@@ -36,5 +36,5 @@ module _ {W : Type 0} (levels : W → Levels) (t : Square W) (old nodes : List (
               let same : get_or (next ++ o ∷ []) k None ≡ o = ap (λ (n : ℕ). get_or (next ++ o ∷ []) n None) end ∙ get_or-append_seam next o [] None in
               subst (λ (n : ℕ). IsNext levels t new fresh (length old) s n (get_or row n None) (get_or (next ++ o ∷ []) n None)) at
               (subst (IsNext levels t new fresh (length old) s k (get_or row k None)) (sym same) is))
-        ]
+        ];
       }

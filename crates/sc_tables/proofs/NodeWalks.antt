@@ -1,20 +1,18 @@
 -- The walks that the nodes of a search stand for.
-use Rattle.std.proofs.Common.{◌≡◌, ◌≢◌, ◌⊎◌, ℕ, zero, suc, ◌+◌, ◌<◌, ◌≤◌, List, [], ◌∷◌, ◌++◌, length, get_or, slice_get, Option, Some, None, arith, refl, sym, ap, subst, ◌∙◌, inl, inr, length-append}
+use Rattle.std.proofs.Common.{◌≡◌, ◌≢◌, ◌⊎◌, ℕ, zero, suc, ◌<◌, ◌≤◌, List, [], ◌∷◌, ◌++◌, length, slice_get, Some, arith, refl, sym, ap, subst, ◌∙◌, inl, inr, length-append}
 use Rattle.std.specs.List.{AllByRecursion}
-use Rattle.sc_theory.specs.Chains.{Chain, positions}
-use Rattle.sc_theory.specs.Walks.{IsStep, IsClosedWalk}
-use Rattle.sc_weight.specs.Levels.{Levels, zero_levels, levels_sum, levels_cmp}
-use Rattle.std.specs.Ordering.{is_lt}
+use Rattle.sc_theory.specs.Chains.{Chain}
+use Rattle.sc_theory.specs.Walks.{IsStep}
+use Rattle.sc_weight.specs.Levels.{Levels, levels_sum}
 use Rattle.sc_tables.specs.Squares.{Square, cell, level_of}
 use Rattle.sc_tables.specs.Walks.{WalksAlong, end_of, LeadsTo}
-use Rattle.sc_tables.specs.Totals.{open_total, closed_total, IsBelow, IsAtMost}
+use Rattle.sc_tables.specs.Totals.{open_total}
 use Rattle.sc_tables.specs.StepPrices.{AreForChain, price_in}
 use Rattle.sc_tables.specs.declared.search.Node.{Node}
-use Rattle.sc_tables.specs.Searches.{AreWalks, Extends, Closes}
-use Rattle.sc_tables.proofs.WalkLaws.{walks_front, walks_rest, walks_back, end_of-append}
+use Rattle.sc_tables.specs.Searches.{AreWalks, Extends}
+use Rattle.sc_tables.proofs.WalkLaws.{walks_front, walks_rest, end_of-append}
 use Rattle.sc_tables.proofs.Repeats.{all_front, all_rest}
-use Rattle.sc_tables.proofs.LeastTotals.{leads-step, open_total-step, closed_total-back, stays}
-use Rattle.sc_tables.proofs.Best.{same_item}
+use Rattle.sc_tables.proofs.LeastTotals.{leads-step, open_total-step, stays}
 
 -- ---- the last step of a walk
 unsnoc : (x : ℕ) (xs : List ℕ) → (front : List ℕ) × (z : ℕ) × (x ∷ xs ≡ front ++ z ∷ [])
@@ -39,14 +37,14 @@ last_step_of c s j (k ∷ ks) leads =
     let rest = walks_rest c s front (z ∷ []) walks in
     let last = all_rest (λ i. s ≢ i) front (z ∷ []) away in
     inr (subst (λ (m : ℕ). LastStep c s m (k ∷ ks)) at
-      (record {
-        front = front;
-        from = end_of s front;
-        is = is;
-        leads = record { walks = walks_front c s front (z ∷ []) walks; away = all_front (λ i. s ≢ i) front (z ∷ []) away; ends = refl };
-        step = rest.0;
-        away = last.0
-      }))
+    (record {
+      front = front;
+      from = end_of s front;
+      is = is;
+      leads = record { walks = walks_front c s front (z ∷ []) walks; away = all_front (λ i. s ≢ i) front (z ∷ []) away; ends = refl };
+      step = rest.0;
+      away = last.0;
+    }))
 
 -- ---- the walk of a node
 pub record IsWalkTo {W : Type 0} (levels : W → Levels) (c : Chain) (t : Square W) (s : ℕ) (x : Node W) : Type 0 where
@@ -66,11 +64,11 @@ module _ {W : Type 0} (levels : W → Levels) (c : Chain) (t : Square W) (s : �
         walk = w.walk ++ x.place ∷ [];
         leads = leads-step c s m.place x.place w.walk w.leads step is.away;
         total =
-          open_total-step (price_in levels t) s w.walk m.place x.place w.leads.ends
-          ∙ ap (λ (a : Levels). levels_sum a (price_in levels t m.place x.place)) w.total
-          ∙ ap (λ (a : Levels). levels_sum (levels m.total) a) (price_at levels t m.place x.place is.price is.step)
-          ∙ sym is.total;
-        few = omega (arith, length-append w.walk (x.place ∷ []), w.few, is.steps)
+            open_total-step (price_in levels t) s w.walk m.place x.place w.leads.ends
+            ∙ ap (λ (a : Levels). levels_sum a (price_in levels t m.place x.place)) w.total
+            ∙ ap (λ (a : Levels). levels_sum (levels m.total) a) (price_at levels t m.place x.place is.price is.step)
+            ∙ sym is.total;
+        few = omega (arith, length-append w.walk (x.place ∷ []), w.few, is.steps);
       }
 
   walk_below : (most : ℕ) (nodes : List (Node W)) → AreWalks levels t s most nodes → (k n : ℕ) (x : Node W) → n < k → slice_get nodes n ≡ Some x → IsWalkTo levels c t s x

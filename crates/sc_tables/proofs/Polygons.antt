@@ -1,10 +1,10 @@
 -- A closed walk below a threshold above 0 contains a polygon below it.
-use Rattle.std.proofs.Common.{◌≡◌, ◌≢◌, ◌⊎◌, ℕ, zero, suc, ◌+◌, ◌<◌, ◌≤◌, Bool, true, false, List, [], ◌∷◌, ◌++◌, length, ℤ, ◌+ℤ◌, arith, inl, inr, refl, sym, ap, subst, ◌∙◌, length-append}
+use Rattle.std.proofs.Common.{◌≡◌, ◌≢◌, ℕ, zero, suc, ◌+◌, ◌<◌, ◌≤◌, List, [], ◌∷◌, ◌++◌, length, ℤ, ◌+ℤ◌, arith, inl, inr, refl, sym, ap, subst, ◌∙◌, length-append}
 use Rattle.std.specs.List.{AllByRecursion}
 use Rattle.std.specs.Ordering.{is_lt}
 use Rattle.std.proofs.lemmas.Bool.{cases_Bool, cases_lt}
-use Rattle.sc_theory.specs.Chains.{Chain, positions}
-use Rattle.sc_theory.specs.Walks.{IsClosedWalk, IsPolygon, IsFromLeast, HasNoRepeat, walk_total}
+use Rattle.sc_theory.specs.Chains.{Chain}
+use Rattle.sc_theory.specs.Walks.{IsClosedWalk, IsPolygon, HasNoRepeat, walk_total}
 use Rattle.sc_weight.specs.Levels.{Levels, zero_levels, levels_sum, levels_cmp}
 use Rattle.sc_tables.specs.Totals.{bulk_of, fine_of, closed_total, IsBelow, IsAtMost}
 use Rattle.sc_tables.specs.Tables.{AllAtLeast, IsPolygonBelow}
@@ -81,7 +81,7 @@ module _ (c : Chain) (price : ℕ → ℕ → Levels) (threshold : Levels) where
       at_place : LeastPlace (i ∷ js) → IsAtMost threshold (closed_total price (i ∷ js))
       at_place p =
           let polygon : IsPolygon c (p.place ∷ (p.after ++ p.before)) =
-            polygon_from c p.before p.place p.after (subst (IsClosedWalk c) p.is closed) (subst HasNoRepeat p.is simple) (subst (AllByRecursion (λ j. p.place ≤ j)) p.is p.least) in
+          polygon_from c p.before p.place p.after (subst (IsClosedWalk c) p.is closed) (subst HasNoRepeat p.is simple) (subst (AllByRecursion (λ j. p.place ≤ j)) p.is p.least) in
           let same : (f : ℕ → ℕ → ℤ) → walk_total f (p.place ∷ (p.after ++ p.before)) ≡ walk_total f (i ∷ js) = λ f. total-turned f p.before p.place p.after ∙ ap (walk_total f) (sym p.is) in
           let total : closed_total price (p.place ∷ (p.after ++ p.before)) ≡ closed_total price (i ∷ js) = λ k. record { bulk = same (bulk_of price) k; fine = same (fine_of price) k } in
           elim (cases_Bool (is_lt (levels_cmp (closed_total price (i ∷ js)) threshold))) [
@@ -98,9 +98,9 @@ module _ (c : Chain) (price : ℕ → ℕ → Levels) (threshold : Levels) where
       let one = smaller (r.place ∷ r.between) (omega arith) (cut_between c r.between r.place r.after r.before cut) in
       let two = smaller (r.before ++ r.place ∷ r.after) (omega arith) (cut_rest c r.between r.place r.after r.before cut) in
       let same : (f : ℕ → ℕ → ℤ) → walk_total f (r.place ∷ r.between) +ℤ walk_total f (r.before ++ r.place ∷ r.after) ≡ walk_total f walk =
-        λ f. sym (total-cut f r.before r.between r.place r.after) ∙ ap (walk_total f) (sym r.is) in
+      λ f. sym (total-cut f r.before r.between r.place r.after) ∙ ap (walk_total f) (sym r.is) in
       let total : levels_sum (closed_total price (r.place ∷ r.between)) (closed_total price (r.before ++ r.place ∷ r.after)) ≡ closed_total price walk =
-        λ k. record { bulk = same (bulk_of price) k; fine = same (fine_of price) k } in
+      λ k. record { bulk = same (bulk_of price) k; fine = same (fine_of price) k } in
       subst (IsAtMost threshold) total (threshold_sum threshold (closed_total price (r.place ∷ r.between)) (closed_total price (r.before ++ r.place ∷ r.after)) above one two)
 
   -- by the number of positions

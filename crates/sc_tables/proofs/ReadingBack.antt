@@ -1,5 +1,5 @@
 -- A walk that is read back from its end.
-use Rattle.std.proofs.Common.{◌≡◌, ◌≢◌, ℕ, zero, suc, ◌+◌, ◌<◌, ◌≤◌, List, [], ◌∷◌, ◌++◌, length, slice_get, reverse, Some, arith, refl, sym, ap, ap₂, subst, ◌∙◌, length-append}
+use Rattle.std.proofs.Common.{◌≡◌, ℕ, zero, suc, ◌<◌, ◌≤◌, List, [], ◌∷◌, ◌++◌, slice_get, reverse, Some, arith, sym, ap, ap₂, subst, ◌∙◌, length-append}
 use Rattle.std.proofs.lemmas.List.{reverse-append}
 use Rattle.std.proofs.lemmas.Option.{slice_get_within}
 use Rattle.sc_theory.specs.Chains.{Chain, positions}
@@ -9,13 +9,13 @@ use Rattle.sc_weight.specs.Laws.{levels_sum_assoc, levels_sum_zero, levels_sum_c
 use Rattle.sc_weight.specs.Evidence.{IsFirstWideLevel}
 use Rattle.sc_weight.specs.declared.level.WideLevel.{WideLevel}
 use Rattle.sc_whole.specs.declared.checked.Op.TheVariants.{Add}
-use Rattle.sc_tables.specs.Squares.{Square, cell}
-use Rattle.sc_tables.specs.Walks.{WalksAlong, end_of, LeadsTo}
+use Rattle.sc_tables.specs.Squares.{Square}
+use Rattle.sc_tables.specs.Walks.{WalksAlong, end_of}
 use Rattle.sc_tables.specs.Totals.{open_total, closed_total, IsBelow}
 use Rattle.sc_tables.specs.StepPrices.{AreForChain, price_in}
 use Rattle.sc_tables.specs.declared.search.Node.{Node}
 use Rattle.sc_tables.specs.Searches.{AreWalks, Extends, Closes, IsWideAt}
-use Rattle.sc_tables.specs.Trails.{IsWalkOf, ReadsTo, AreLinked, GoesTo, IsReadTo}
+use Rattle.sc_tables.specs.Trails.{ReadsTo, AreLinked, GoesTo, IsReadTo}
 use Rattle.sc_tables.specs.States.{StopsWithin}
 use Rattle.sc_tables.specs.declared.search.Stop.{Stop}
 use Rattle.sc_tables.specs.declared.search.Stop.TheVariants.{Wide, Memory}
@@ -32,7 +32,7 @@ linked_from {W} levels t s most nodes small short are =
       some = are.some;
       earlier = earlier;
       place = λ n x here. omega (arith, are.placed n x here);
-      steps = λ n x here. omega (arith, are.few n x here)
+      steps = λ n x here. omega (arith, are.few n x here);
     }
   where
     earlier : (n : ℕ) (x : Node W) → 0 < n → slice_get nodes n ≡ Some x → x.before < n
@@ -51,11 +51,11 @@ module _ {W : Type 0} (levels : W → Levels) where
         away = (is.away, goes.away);
         ends = goes.ends;
         total =
-          sym (levels_sum_assoc (levels m.total) (price_in levels t m.place y.place) (open_total (price_in levels t) y.place rest))
-          ∙ ap (λ (a : Levels). levels_sum (levels_sum (levels m.total) a) (open_total (price_in levels t) y.place rest)) (price_at levels t m.place y.place is.price is.step)
-          ∙ ap (λ (a : Levels). levels_sum a (open_total (price_in levels t) y.place rest)) (sym is.total)
-          ∙ goes.total;
-        few = omega (arith, is.steps, goes.few)
+            sym (levels_sum_assoc (levels m.total) (price_in levels t m.place y.place) (open_total (price_in levels t) y.place rest))
+            ∙ ap (λ (a : Levels). levels_sum (levels_sum (levels m.total) a) (open_total (price_in levels t) y.place rest)) (price_at levels t m.place y.place is.price is.step)
+            ∙ ap (λ (a : Levels). levels_sum a (open_total (price_in levels t) y.place rest)) (sym is.total)
+            ∙ goes.total;
+        few = omega (arith, is.steps, goes.few);
       }
 
   pub read_next : (nodes : List (Node W)) (n here : ℕ) (y : Node W) (back : List ℕ) → IsReadTo levels nodes n here back → AreLinked nodes → 0 < here → slice_get nodes here ≡ Some y → IsReadTo levels nodes n y.before (back ++ y.place ∷ [])
@@ -64,11 +64,11 @@ module _ {W : Type 0} (levels : W → Levels) where
       record {
         inside = omega (arith, linked.earlier (suc k) y later at, is.inside);
         goes = λ c t s most x m fits are there mine.
-          (let (m', low, m_at, ext) = are.later k y at in
-          let same : m' ≡ m = same_item m' m (slice_get nodes y.before) m_at mine in
-          let goes = is.goes c t s most x y fits are there at in
-          subst (GoesTo levels c t s m x) (reverse-last back y.place)
-          (goes_more c t s m y x (reverse back) fits (are.placed y.before m mine) (are.placed (suc k) y at) (subst (λ (z : Node W). Extends levels t s z y) same ext) goes))
+            (let (m', low, m_at, ext) = are.later k y at in
+            let same : m' ≡ m = same_item m' m (slice_get nodes y.before) m_at mine in
+            let goes = is.goes c t s most x y fits are there at in
+            subst (GoesTo levels c t s m x) (reverse-last back y.place)
+            (goes_more c t s m y x (reverse back) fits (are.placed y.before m mine) (are.placed (suc k) y at) (subst (λ (z : Node W). Extends levels t s z y) same ext) goes));
       }
 
   pub read_last : (nodes : List (Node W)) (n here : ℕ) (y : Node W) (back : List ℕ) → IsReadTo levels nodes n here back → here ≡ 0 → slice_get nodes 0 ≡ Some y → ReadsTo levels nodes n (reverse (back ++ y.place ∷ []))
@@ -81,14 +81,14 @@ module _ {W : Type 0} (levels : W → Levels) where
         leads = record {
           walks = subst (λ (p : ℕ). WalksAlong c p (reverse back)) at goes.walks;
           away = goes.away;
-          ends = subst (λ (p : ℕ). end_of p (reverse back) ≡ x.place) at goes.ends
+          ends = subst (λ (p : ℕ). end_of p (reverse back) ≡ x.place) at goes.ends;
         };
         total =
-          sym (levels_sum_zero (open_total (price_in levels t) s (reverse back)))
-          ∙ levels_sum_comm (open_total (price_in levels t) s (reverse back)) zero_levels
-          ∙ ap₂ (λ (a : Levels) (p : ℕ). levels_sum a (open_total (price_in levels t) p (reverse back))) (sym zero_total) (sym at)
-          ∙ goes.total;
-        few = omega (arith, goes.few)
+            sym (levels_sum_zero (open_total (price_in levels t) s (reverse back)))
+            ∙ levels_sum_comm (open_total (price_in levels t) s (reverse back)) zero_levels
+            ∙ ap₂ (λ (a : Levels) (p : ℕ). levels_sum a (open_total (price_in levels t) p (reverse back))) (sym zero_total) (sym at)
+            ∙ goes.total;
+        few = omega (arith, goes.few);
       }
 
   -- ---- what is said of the walk that was read
@@ -97,12 +97,12 @@ module _ {W : Type 0} (levels : W → Levels) where
       let is = reads c t s most closes.here fits are closes.here_is in
       let step : IsStep c closes.here.place s = fits.only closes.here.place s closes.price (omega (arith, fits.side, are.placed n closes.here closes.here_is)) (omega (arith, fits.side)) closes.step in
       let total : closed_total (price_in levels t) (s ∷ is.rest) ≡ levels_sum (levels closes.here.total) (levels closes.price) =
-        closed_total-back (price_in levels t) s is.rest closes.here.place is.leads.ends
-        ∙ ap₂ levels_sum is.total (price_at levels t closes.here.place s closes.price closes.step) in
+      closed_total-back (price_in levels t) s is.rest closes.here.place is.leads.ends
+      ∙ ap₂ levels_sum is.total (price_at levels t closes.here.place s closes.price closes.step) in
       subst (IsClosedBelow c (price_in levels t) threshold) (sym is.is)
       (record {
         closed = walks_back c s s is.rest is.leads.walks (subst (λ (k : ℕ). IsStep c k s) (sym is.leads.ends) step);
-        below = subst (λ (l : Levels). IsBelow l threshold) (sym total) closes.below
+        below = subst (λ (l : Levels). IsBelow l threshold) (sym total) closes.below;
       })
 
   pub wide_walk : (c : Chain) (t : Square W) (s most end n to : ℕ) (wide : WideLevel) (nodes : List (Node W)) (walk : List ℕ) → AreForChain c t → AreWalks levels t s most nodes → IsWideAt levels t nodes end to n wide → to < positions c →
@@ -119,8 +119,8 @@ module _ {W : Type 0} (levels : W → Levels) where
         steps = walks-append c s w.rest (to ∷ []) w.leads.walks (subst (λ (k : ℕ). IsStep c k to) (sym w.leads.ends) step, tt);
         few = omega (arith, length-append w.rest (to ∷ []), w.few, short is.here is.here_is);
         evidence =
-          subst (λ (p : Levels). IsFirstWideLevel Add (levels_sum (open_total (price_in levels t) s w.rest) p) (open_total (price_in levels t) s w.rest) p wide) price
-          (subst (λ (a : Levels). IsFirstWideLevel Add (levels_sum a (levels is.price)) a (levels is.price) wide) (sym w.total) is.evidence)
+            subst (λ (p : Levels). IsFirstWideLevel Add (levels_sum (open_total (price_in levels t) s w.rest) p) (open_total (price_in levels t) s w.rest) p wide) price
+            (subst (λ (a : Levels). IsFirstWideLevel Add (levels_sum a (levels is.price)) a (levels is.price) wide) (sym w.total) is.evidence);
       }
 
 -- ---- the fault of a stop

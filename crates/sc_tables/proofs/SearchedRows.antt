@@ -1,24 +1,23 @@
 -- The rows of tables, from the searches.
-use Rattle.std.proofs.Common.{◌≡◌, ◌≢◌, ◌⊎◌, ℕ, zero, suc, ◌+◌, ◌*◌, ◌<◌, ◌≤◌, List, [], ◌∷◌, ◌++◌, length, get_or, slice_get, Option, Some, None, arith, refl, sym, ap, subst, ◌∙◌, inl, inr}
+use Rattle.std.proofs.Common.{◌≡◌, ℕ, ◌+◌, ◌*◌, ◌<◌, List, [], ◌∷◌, length, get_or, slice_get, Option, Some, None, arith, refl, sym, ap, subst, ◌∙◌, inl, inr}
 use Rattle.std.specs.Option.{option_map}
 use Rattle.std.proofs.lemmas.Bool.{cases_lt}
 use Rattle.std.proofs.lemmas.Nat.{mul-add-lt}
 use Rattle.sc_theory.specs.Chains.{Chain, positions}
-use Rattle.sc_theory.specs.Walks.{IsStep}
-use Rattle.sc_weight.specs.Levels.{Levels, levels_sum}
+use Rattle.sc_weight.specs.Levels.{Levels}
 use Rattle.sc_tables.specs.Squares.{Square}
 use Rattle.sc_tables.specs.Walks.{WalksAlong, end_of, LeadsTo}
 use Rattle.sc_tables.specs.Totals.{open_total, IsAtMost}
 use Rattle.sc_tables.specs.StepPrices.{AreForChain, price_in}
 use Rattle.sc_tables.specs.declared.search.Node.{Node}
-use Rattle.sc_tables.specs.Searches.{AreWalks, AreEnds, Lower}
+use Rattle.sc_tables.specs.Searches.{AreWalks, Lower}
 use Rattle.sc_tables.specs.States.{IsDone}
 use Rattle.sc_tables.specs.Rows.{IsSearched}
 use Rattle.sc_tables.specs.Trails.{IsTotalOf, AreTotalsAfter}
 use Rattle.sc_tables.specs.CheapPolygons.{AreSearched}
 use Rattle.sc_tables.proofs.Best.{same_item}
 use Rattle.sc_tables.proofs.NodeWalks.{walk_of}
-use Rattle.sc_tables.proofs.States.{LowerAt, lower_at, end_place}
+use Rattle.sc_tables.proofs.States.{end_place}
 
 end_inside : (c : Chain) (i : ℕ) (js : List ℕ) → i < positions c → WalksAlong c i js → end_of i js < positions c
 end_inside c i [] inside walks = inside
@@ -33,7 +32,7 @@ searched-congr c price threshold s a b inside same is =
     record {
       sound = λ j l within e. is.sound j l within (sym (same j within) ∙ e);
       cover = λ j js leads short. (let (l, e, low) = is.cover j js leads short in (l, same j (lead_inside c s j js inside leads) ∙ e, low));
-      back = is.back
+      back = is.back;
     }
 
 module _ {W : Type 0} (levels : W → Levels) (c : Chain) (t : Square W) (threshold : Levels) (s : ℕ) (nodes : List (Node W)) (row : List (Option ℕ)) (fits : AreForChain c t) (inside : s < positions c) (are : AreWalks levels t s (positions c) nodes) (done : IsDone levels c t threshold s nodes row) where
@@ -61,7 +60,7 @@ module _ {W : Type 0} (levels : W → Levels) (c : Chain) (t : Square W) (thresh
       record {
         sound = λ j l within e. sound_at j (get_or row j None) (cells j) l within refl (totals j within) e;
         cover = λ j js leads short. cover_at (get_or row j None) (cells j) (open_total (price_in levels t) s js) (totals j (lead_inside c s j js inside leads)) (done.covers j js leads short);
-        back = done.back
+        back = done.back;
       }
 
   pub next_searched : (old new : List (Option W)) → AreSearched levels c (price_in levels t) threshold t.side s old → AreTotalsAfter nodes row old new (length row) → AreSearched levels c (price_in levels t) threshold t.side (s + 1) new
@@ -72,14 +71,14 @@ module _ {W : Type 0} (levels : W → Levels) (c : Chain) (t : Square W) (thresh
           | inl earlier ↦
               searched-congr c (price_in levels t) threshold r (λ j. option_map levels (get_or old (r * t.side + j) None)) (λ j. option_map levels (get_or new (r * t.side + j) None)) (omega arith)
               (λ j inside_row. ap (option_map levels) (after.same (r * t.side + j)
-                (let low : j < t.side = omega (arith, fits.side) in omega (arith, before.len, mul-add-lt r t.side j s earlier low))))
+              (let low : j < t.side = omega (arith, fits.side) in omega (arith, before.len, mul-add-lt r t.side j s earlier low))))
               (before.row r earlier)
           | inr last ↦
               (let at : s ≡ r = omega arith in
               subst (λ (k : ℕ). IsSearched c (price_in levels t) threshold k (λ j. option_map levels (get_or new (k * t.side + j) None))) at
               (row_searched (λ j. get_or new (s * t.side + j) None)
-                (λ j inside_row. subst (λ (n : ℕ). IsTotalOf nodes (get_or row j None) (get_or new (n + j) None)) before.len (after.total j (omega (arith, done.len, fits.side))))))
-        ]
+              (λ j inside_row. subst (λ (n : ℕ). IsTotalOf nodes (get_or row j None) (get_or new (n + j) None)) before.len (after.total j (omega (arith, done.len, fits.side))))))
+        ];
       }
 
 pub none_searched : {W : Type 0} (levels : W → Levels) (c : Chain) (price : ℕ → ℕ → Levels) (threshold : Levels) (side : ℕ) → AreSearched {W = W} levels c price threshold side 0 []

@@ -1,11 +1,11 @@
 -- Walks of fewer steps than there are positions suffice where no closed walk is negative.
-use Rattle.std.proofs.Common.{◌≡◌, ◌≢◌, ◌⊎◌, ℕ, zero, suc, ◌+◌, ◌<◌, ◌≤◌, List, [], ◌∷◌, ◌++◌, length, ℤ, ◌+ℤ◌, Option, Some, None, arith, inl, inr, refl, sym, ap, subst, ◌∙◌, length-append}
+use Rattle.std.proofs.Common.{◌≡◌, ◌≢◌, ℕ, zero, suc, ◌+◌, ◌<◌, List, ◌∷◌, ◌++◌, length, ℤ, ◌+ℤ◌, arith, inl, inr, sym, ap, subst, ◌∙◌, length-append}
 use Rattle.std.specs.List.{AllByRecursion}
 use Rattle.sc_theory.specs.Chains.{Chain, positions}
-use Rattle.sc_theory.specs.Walks.{IsStep, IsClosedWalk, HasNoRepeat, walk_total}
+use Rattle.sc_theory.specs.Walks.{walk_total}
 use Rattle.sc_weight.specs.Levels.{Levels, zero_levels, levels_sum}
 use Rattle.sc_tables.specs.Walks.{WalksAlong, end_of, LeadsTo}
-use Rattle.sc_tables.specs.Totals.{bulk_of, fine_of, total_along, open_total, closed_total, IsBelow, IsAtMost}
+use Rattle.sc_tables.specs.Totals.{bulk_of, fine_of, total_along, open_total, closed_total, IsAtMost}
 use Rattle.sc_tables.specs.Tables.{AllAtLeast}
 use Rattle.sc_tables.proofs.Order.{at_most-refl, at_most-trans, at_most_rest}
 use Rattle.sc_tables.proofs.WalkLaws.{end_of-append, open_between, open_rest, total_along-cut, places_inside}
@@ -30,19 +30,19 @@ module _ (c : Chain) (price : ℕ → ℕ → Levels) (sound : AllAtLeast c pric
       let tail = all_rest (λ i. s ≢ i) r.before (r.place ∷ (r.between ++ r.place ∷ r.after)) away in
       let last = all_rest (λ i. s ≢ i) r.between (r.place ∷ r.after) tail.1 in
       let same : (f : ℕ → ℕ → ℤ) → walk_total f (r.place ∷ r.between) +ℤ total_along f s (r.before ++ r.place ∷ r.after) ≡ total_along f s js =
-        λ f. sym (total_along-cut f s r.before r.place r.between r.after) ∙ ap (total_along f s) (sym r.is) in
+      λ f. sym (total_along-cut f s r.before r.place r.between r.after) ∙ ap (total_along f s) (sym r.is) in
       let total : levels_sum (closed_total price (r.place ∷ r.between)) (open_total price s (r.before ++ r.place ∷ r.after)) ≡ open_total price s js =
-        λ k. record { bulk = same (bulk_of price) k; fine = same (fine_of price) k } in
+      λ k. record { bulk = same (bulk_of price) k; fine = same (fine_of price) k } in
       record {
         walk = r.before ++ r.place ∷ r.after;
         leads = record {
           walks = open_rest c s r.before r.place r.between r.after walks;
           away = all-append (λ i. s ≢ i) r.before (r.place ∷ r.after) (all_front (λ i. s ≢ i) r.before _ away) last;
-          ends = sym (end-cut s r.before r.place r.between r.after) ∙ ap (end_of s) (sym r.is) ∙ leads.ends
+          ends = sym (end-cut s r.before r.place r.between r.after) ∙ ap (end_of s) (sym r.is) ∙ leads.ends;
         };
         short = omega arith;
         lower = subst (IsAtMost (open_total price s (r.before ++ r.place ∷ r.after))) total
-          (at_most_rest (closed_total price (r.place ∷ r.between)) _ (sound (r.place ∷ r.between) (open_between c s r.before r.place r.between r.after walks)))
+            (at_most_rest (closed_total price (r.place ∷ r.between)) _ (sound (r.place ∷ r.between) (open_between c s r.before r.place r.between r.after walks)));
       }
 
   shorten : (n : ℕ) (js : List ℕ) → length js < n → LeadsTo c s j js → Shorter c price s j js (positions c)
@@ -53,7 +53,7 @@ module _ (c : Chain) (price : ℕ → ℕ → Levels) (sound : AllAtLeast c pric
           walk = js;
           leads = leads;
           short = simple_is_short (positions c) (s ∷ js) (leads.away, simple) (inside, places_inside c s js leads.walks);
-          lower = at_most-refl (open_total price s js)
+          lower = at_most-refl (open_total price s js);
         }
     | inr r ↦
         (let once = cut_once js leads r in

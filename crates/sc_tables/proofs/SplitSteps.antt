@@ -59,7 +59,7 @@ polygon_at c xs k inside closed simple least =
     let same : p.place ∷ (p.rest ++ take k xs) ≡ drop k xs ++ take k xs = ap (λ (ys : List ℕ). ys ++ take k xs) (sym p.back) in
     record {
       valid = subst (IsPolygon c) same polygon;
-      steps = λ f. ap (walk_total f) (sym same) ∙ total-turned f (take k xs) p.place p.rest ∙ ap (walk_total f) (sym p.whole)
+      steps = λ f. ap (walk_total f) (sym same) ∙ total-turned f (take k xs) p.place p.rest ∙ ap (walk_total f) (sym p.whole);
     }
 
 -- ---- one position more
@@ -94,7 +94,7 @@ module _ (c : Chain) (walk path new : List ℕ) (x : ℕ) (rest : List ℕ) (pol
         closed = subst (IsClosedWalk c) moved so_far.closed;
         simple = subst HasNoRepeat (sym is.path_is) (put_last path x so_far.simple (apart path is.away));
         valid = subst (AllByRecursion (IsPolygon c)) (sym is.polygons_are) so_far.valid;
-        steps = λ f. ap (λ (ws : List (List ℕ)). walks_total f ws +ℤ walk_total f (new ++ rest)) is.polygons_are ∙ ap (λ (ys : List ℕ). walks_total f polygons +ℤ walk_total f ys) (sym moved) ∙ so_far.steps f
+        steps = λ f. ap (λ (ws : List (List ℕ)). walks_total f ws +ℤ walk_total f (new ++ rest)) is.polygons_are ∙ ap (λ (ys : List ℕ). walks_total f polygons +ℤ walk_total f ys) (sym moved) ∙ so_far.steps f;
       }
     where
       apart : (ys : List ℕ) → AllByRecursion (λ j. x ≢ j) ys → AllByRecursion (λ j. x ≢ j) ys
@@ -106,19 +106,19 @@ module _ (c : Chain) (walk path new : List ℕ) (x : ℕ) (rest : List ℕ) (pol
       let left : is.before ++ x ∷ rest ≡ new ++ rest = sym (append_assoc is.before (x ∷ []) rest) ∙ ap (λ (ys : List ℕ). ys ++ rest) (sym is.path_is) in
       let cut = cut_rest c is.between x rest is.before (subst (IsClosedWalk c) whole so_far.closed) in
       let front : HasNoRepeat (is.before ++ x ∷ []) =
-        simple_front (is.before ++ x ∷ []) is.between (subst HasNoRepeat (is.path_was ∙ sym (append_assoc is.before (x ∷ []) is.between)) so_far.simple) in
+      simple_front (is.before ++ x ∷ []) is.between (subst HasNoRepeat (is.path_was ∙ sym (append_assoc is.before (x ∷ []) is.between)) so_far.simple) in
       record {
         closed = subst (IsClosedWalk c) left cut;
         simple = subst HasNoRepeat (sym is.path_is) front;
         valid = subst (AllByRecursion (IsPolygon c)) (sym is.polygons_are) (all_last (IsPolygon c) polygons is.polygon so_far.valid is.polygon_is.valid);
         steps = λ f.
-          (let split : walk_total f (path ++ x ∷ rest) ≡ walk_total f is.polygon +ℤ walk_total f (new ++ rest) =
+            (let split : walk_total f (path ++ x ∷ rest) ≡ walk_total f is.polygon +ℤ walk_total f (new ++ rest) =
             ap (walk_total f) whole ∙ total-cut f is.before is.between x rest
             ∙ ap (λ (a : ℤ). a +ℤ walk_total f (is.before ++ x ∷ rest)) (sym (is.polygon_is.steps f))
             ∙ ap (λ (ys : List ℕ). walk_total f is.polygon +ℤ walk_total f ys) left in
-          ap (λ (ws : List (List ℕ)). walks_total f ws +ℤ walk_total f (new ++ rest)) is.polygons_are
-          ∙ ap (λ (a : ℤ). a +ℤ walk_total f (new ++ rest)) (walks_total-last f polygons is.polygon)
-          ∙ regrouped (walks_total f polygons) (walk_total f (path ++ x ∷ rest)) (walk_total f is.polygon) (walk_total f (new ++ rest)) (walk_total f walk) (so_far.steps f) split)
+            ap (λ (ws : List (List ℕ)). walks_total f ws +ℤ walk_total f (new ++ rest)) is.polygons_are
+            ∙ ap (λ (a : ℤ). a +ℤ walk_total f (new ++ rest)) (walks_total-last f polygons is.polygon)
+            ∙ regrouped (walks_total f polygons) (walk_total f (path ++ x ∷ rest)) (walk_total f is.polygon) (walk_total f (new ++ rest)) (walk_total f walk) (so_far.steps f) split);
       }
 
   pub split_step : GoesOn x path new polygons made ⊎ CutsOff c x path new polygons made → IsSplitSoFar c walk new rest made
@@ -154,7 +154,7 @@ module _ (c : Chain) (path : List ℕ) (x k : ℕ) (inside : k < length path) (a
         path_is = cut ∙ stays;
         polygon = polygon;
         polygon_is = subst (λ (ys : List ℕ). IsPolygonOf c ys polygon) (sym back_is) is;
-        polygons_are = added
+        polygons_are = added;
       }
 
 -- ---- the first step, and the last

@@ -1,22 +1,22 @@
 -- One round of a search, and its end.
-use Rattle.std.proofs.Common.{◌≡◌, ◌≢◌, ◌⊎◌, ℕ, zero, suc, ◌+◌, ◌<◌, ◌≤◌, List, [], ◌∷◌, ◌++◌, length, get_or, slice_get, Option, Some, None, arith, refl, sym, ap, subst, ◌∙◌, inl, inr, length-append}
+use Rattle.std.proofs.Common.{◌≡◌, ◌≢◌, ◌⊎◌, ℕ, zero, suc, ◌+◌, ◌<◌, ◌≤◌, List, [], ◌∷◌, length, get_or, slice_get, Option, Some, None, arith, refl, sym, ap, subst, ◌∙◌, inl, inr, length-append}
 use Rattle.std.proofs.lemmas.Bool.{cases_lt, cases_eq}
 use Rattle.sc_theory.specs.Chains.{Chain, positions}
 use Rattle.sc_theory.specs.Walks.{IsStep}
 use Rattle.sc_weight.specs.Levels.{Levels, zero_levels, levels_sum}
 use Rattle.sc_tables.specs.Squares.{Square, cell}
 use Rattle.sc_tables.specs.Walks.{LeadsTo}
-use Rattle.sc_tables.specs.Totals.{open_total, IsBelow, IsAtMost}
+use Rattle.sc_tables.specs.Totals.{open_total, IsAtMost}
 use Rattle.sc_tables.specs.StepPrices.{AreForChain, price_in}
 use Rattle.sc_tables.specs.declared.search.Node.{Node}
 use Rattle.sc_tables.specs.Searches.{AreWalks, AllReach, IsGrowing, Grows, IsEnd, AreEnds, Lower, IsNext}
 use Rattle.sc_tables.specs.States.{IsBegun, CoversWalks, ReachBack, IsState, IsDone}
 use Rattle.sc_tables.proofs.Order.{at_most-refl, at_most-trans, at_most-sum}
-use Rattle.sc_tables.proofs.LeastTotals.{open_total-step, no_steps}
+use Rattle.sc_tables.proofs.LeastTotals.{open_total-step}
 use Rattle.sc_tables.proofs.Best.{same_item}
-use Rattle.sc_tables.proofs.Growing.{lower-grows, lower-trans, item_before}
+use Rattle.sc_tables.proofs.Growing.{lower-trans, item_before}
 use Rattle.sc_tables.proofs.NextRows.{end_below}
-use Rattle.sc_tables.proofs.NodeWalks.{LastStep, last_step_of, price_at}
+use Rattle.sc_tables.proofs.NodeWalks.{last_step_of, price_at}
 
 -- ---- entries
 pub entry_inside : (row : List (Option ℕ)) (i n : ℕ) → get_or row i None ≡ Some n → i < length row
@@ -58,8 +58,8 @@ module _ {W : Type 0} (levels : W → Levels) (c : Chain) (t : Square W) (s : �
         let (w, at) = fits.step last.from j last.step in
         let more = step last.from low.number j low.node w low.is low.here (omega (arith, last.step.to, fits.side)) (λ e. last.away (sym e)) at in
         let total : levels_sum (open_total (price_in levels t) s last.front) (levels w) ≡ open_total (price_in levels t) s js =
-          ap (λ (l : Levels). levels_sum (open_total (price_in levels t) s last.front) l) (sym (price_at levels t last.from j w at))
-          ∙ sym (open_total-step (price_in levels t) s last.front last.from j last.leads.ends) ∙ ap (open_total (price_in levels t) s) (sym last.is) in
+        ap (λ (l : Levels). levels_sum (open_total (price_in levels t) s last.front) l) (sym (price_at levels t last.from j w at))
+        ∙ sym (open_total-step (price_in levels t) s last.front last.from j last.leads.ends) ∙ ap (open_total (price_in levels t) s) (sym last.is) in
         lower-trans levels b (get_or next j None) _ (open_total (price_in levels t) s js) more
         (subst (IsAtMost (levels_sum (levels low.node.total) (levels w))) total (at_most-sum _ _ (levels w) (levels w) low.low (at_most-refl (levels w)))))
   ]
@@ -127,10 +127,10 @@ module _ {W : Type 0} (levels : W → Levels) (c : Chain) (t : Square W) (thresh
           ends = ends_next;
           start = next_start;
           stale = λ i n j x w e old here within other step.
-            step_all i n j x w (same_entry i n e old) (item_before nodes new n x grows old here) within other step;
+              step_all i n j x w (same_entry i n e old) (item_before nodes new n x grows old here) within other step;
           stale_back = λ i n x w e old here step. back_all i n x w (same_entry i n e old) (item_before nodes new n x grows old here) step;
           covers = λ j js leads short. cover_more levels c t s fits inside nodes new row next start_low step_all r state.covers j js leads (omega arith);
-          back = λ i js leads short step. back_next i js leads (omega arith) step
+          back = λ i js leads short step. back_next i js leads (omega arith) step;
         }
 
     -- no walk was added
@@ -152,9 +152,9 @@ module _ {W : Type 0} (levels : W → Levels) (c : Chain) (t : Square W) (thresh
             ends = ends_next;
             covers = λ j js leads short. cover_all (length js) j js leads (omega arith);
             back = λ i js leads short step.
-              (let low = lower_at levels new (get_or next i None) _ (cover_all (length js) i js leads (omega arith)) in
-              let e = same_entry i low.number low.is (all_old i low.number low.is) in
-              back_of i js (rw e (low.node, item_before nodes new low.number low.node grows (all_old i low.number low.is) low.here, low.low)) step)
+                (let low = lower_at levels new (get_or next i None) _ (cover_all (length js) i js leads (omega arith)) in
+                let e = same_entry i low.number low.is (all_old i low.number low.is) in
+                back_of i js (rw e (low.node, item_before nodes new low.number low.node grows (all_old i low.number low.is) low.here, low.low)) step);
           }
 
 -- ---- the first state, and the end after all rounds
@@ -176,7 +176,7 @@ module _ {W : Type 0} (levels : W → Levels) (c : Chain) (t : Square W) (thresh
             stale = λ i n j y w e old. absurd (omega arith);
             stale_back = λ i n y w e old. absurd (omega arith);
             covers = λ j js leads short. cover j js leads (short_is_none js (omega arith));
-            back = λ i js leads short. absurd (omega arith)
+            back = λ i js leads short. absurd (omega arith);
           }
         where
           walks : AreWalks levels t s 0 (x ∷ [])
@@ -185,7 +185,7 @@ module _ {W : Type 0} (levels : W → Levels) (c : Chain) (t : Square W) (thresh
             first = λ y here. subst (λ (z : Node W). (z.place ≡ s) × (levels z.total ≡ zero_levels)) (same_item x y (Some x) refl here) (at, total);
             later = λ n y here. absurd (cc);
             placed = placed;
-            few = few
+            few = few;
           }
             where
               placed : (n : ℕ) (y : Node W) → slice_get (x ∷ []) n ≡ Some y → y.place < t.side

@@ -1,15 +1,14 @@
 -- The price of a step, from the row of its pair and the base price of its end.
-use Rattle.std.proofs.Common.{◌≡◌, ℕ, zero, suc, ◌+◌, ◌*◌, ◌/◌, ◌%◌, ◌<◌, ◌≤◌, ◌^◌, Bool, true, false, List, [], ◌∷◌, ◌++◌, length, get_or, map, slice_get, Option, Some, None, ℤ, pos, neg_ℤ, ◌-ℤ◌, arith, refl, sym, ap, ap₂, subst, ◌∙◌, length-append, inl, inr}
-use Rattle.std.specs.List.{filter, flat_map, range_with_len}
+use Rattle.std.proofs.Common.{◌≡◌, ℕ, ◌+◌, ◌*◌, ◌/◌, ◌%◌, ◌<◌, ◌≤◌, ◌^◌, Bool, List, [], ◌∷◌, ◌++◌, length, get_or, map, slice_get, Option, Some, None, ℤ, pos, neg_ℤ, ◌-ℤ◌, arith, refl, sym, ap, ap₂, subst, ◌∙◌, length-append, inl, inr}
+use Rattle.std.specs.List.{filter, flat_map}
 use Rattle.std.proofs.Math.Seq.{get_or-append_seam}
-use Rattle.std.proofs.Math.Nat.{mul-le-mul_left}
 use Rattle.std.proofs.lemmas.Int.{ints}
 use Rattle.std.proofs.lemmas.Bool.{cases_Bool, cases_lt}
 use Rattle.std.proofs.lemmas.List.{get_or-map, length-map, get_or_append_left}
 use Rattle.std.proofs.lemmas.List.FromFn.{length-range_with_len}
 use Rattle.std.proofs.lemmas.Option.{get_or_from_slice_get, slice_get_within}
 use Rattle.std.proofs.lemmas.Nat.{div-mul-add, mod-mul-add, mul-add-lt}
-use Rattle.sc_weight.specs.Levels.{Levels, zero_levels, levels_sum, levels_difference}
+use Rattle.sc_weight.specs.Levels.{Levels, levels_sum}
 use Rattle.sc_weight.specs.Evidence.{at_level}
 use Rattle.sc_weight.specs.declared.level.Level.{Level}
 use Rattle.sc_weight.specs.declared.level.Level.TheVariants.{Bulk, Fine}
@@ -41,7 +40,7 @@ few_pairs c =
     let size : length (all_positions c) ≡ positions c = length-range_with_len 0 (positions c) in
     subst (λ (n : ℕ). length (pairs c) ≤ n * positions c) size
     (flat_short (λ p. map (λ q. (p, q)) (filter (is_pair c p) (all_positions c))) (positions c)
-      (λ p. omega (arith, length-map {B = ℕ × ℕ} (filter (is_pair c p) (all_positions c)) (λ (q : ℕ). (p, q)), size, filter_short (is_pair c p) (all_positions c))) (all_positions c))
+    (λ p. omega (arith, length-map {B = ℕ × ℕ} (filter (is_pair c p) (all_positions c)) (λ (q : ℕ). (p, q)), size, filter_short (is_pair c p) (all_positions c))) (all_positions c))
 
 square_below : (n : ℕ) → n ≤ 64 → n * n ≤ 4096
 square_below n few = grind arith
@@ -99,7 +98,7 @@ next_cell levels c pair base side n cells o are is =
             let same : get_or (cells ++ o ∷ []) n None ≡ o = ap (λ (m : ℕ). get_or (cells ++ o ∷ []) m None) end ∙ get_or-append_seam cells o [] None in
             subst (λ (m : ℕ). IsCell levels c pair base (m % side) (m / side) (get_or (cells ++ o ∷ []) m None)) at
             (subst (IsCell levels c pair base (n % side) (n / side)) (sym same) is))
-      ]
+      ];
     }
 
 module _ {W : Type 0} (levels : W → Levels) (c : Chain) (pair base : List W) (t : Square W) (side : t.side ≡ positions c) (are : AreCells levels c pair base t.side (t.side * t.side) t.cells) where
@@ -109,7 +108,7 @@ module _ {W : Type 0} (levels : W → Levels) (c : Chain) (pair base : List W) (
       let high : j < t.side = omega (arith, side) in
       subst (λ (n : ℕ). IsCell levels c pair base n j (cell t j i)) (mod-mul-add j t.side i low)
       (subst (λ (n : ℕ). IsCell levels c pair base ((j * t.side + i) % t.side) n (cell t j i)) (div-mul-add j t.side i low)
-        (are.at (j * t.side + i) (mul-add-lt j t.side i t.side high low)))
+      (are.at (j * t.side + i) (mul-add-lt j t.side i t.side high low)))
 
   on_step : (i j : ℕ) (o : Option W) → IsStep c i j → IsCell levels c pair base i j o → (w : W) × (o ≡ Some w)
   on_step i j None step is = absurd (is step)
@@ -123,7 +122,7 @@ module _ {W : Type 0} (levels : W → Levels) (c : Chain) (pair base : List W) (
       record {
         side = side;
         step = λ i j step. on_step i j (cell t j i) step (cell_is i j step.from step.to);
-        only = λ i j w from to e. off_step i j (cell t j i) w e (cell_is i j from to)
+        only = λ i j w from to e. off_step i j (cell t j i) w e (cell_is i j from to);
       }
 
   price_of : (i j : ℕ) (o : Option W) → IsStep c i j → cell t j i ≡ o → IsCell levels c pair base i j o → price_in levels t i j ≡ step_levels levels c pair base i j

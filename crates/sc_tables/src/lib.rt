@@ -1,16 +1,15 @@
 //! Distances between the positions of a chain, and polygons of a total below a threshold.
 #![tactic(auto)]
 
-pub mod laws;
 mod explore;
+pub mod laws;
 mod prices;
 mod search;
 mod splitting;
 mod tables;
-mod trails;
-
 #[cfg(test)]
 mod tests;
+mod trails;
 
 pub use prices::{StepFault, StepPrices};
 pub use splitting::split;

@@ -18,7 +18,11 @@ use std::marker::Model;
 #[derive(Clone, Copy, Debug, PartialEq, Eq)]
 pub enum StepFault {
     /// 0 minus the price of a pair's row is outside 128 bits at this level.
-    Turn { row: u32, level: Level, wide: Wide },
+    Turn {
+        row: u32,
+        level: Level,
+        wide: Wide,
+    },
     /// The price of the pair plus the base price is, at the step between these positions.
     Step {
         from: u32,

@@ -107,7 +107,10 @@ fn with_step<W: Weight>(
 }
 
 /// The cheaper of two candidates, if there is any.
-fn cheaper<W: Weight>(best: Option<Candidate<W>>, next: Option<Candidate<W>>) -> Option<Candidate<W>>
+fn cheaper<W: Weight>(
+    best: Option<Candidate<W>>,
+    next: Option<Candidate<W>>,
+) -> Option<Candidate<W>>
     ensures one { (result ≡ next) ⊎ (result ≡ best) }
     ensures below_next { IfSome next (λ b. Under W.levels result (W.levels b.total)) }
     ensures below_best { IfSome best (λ b. Under W.levels result (W.levels b.total)) }

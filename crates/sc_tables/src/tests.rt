@@ -205,8 +205,14 @@ fn polygons_and_tables(rt: HostRuntime) -> Result<(), Fail> {
     for (text, pair, base, threshold, expected) in cases {
         assert!(rt; 0 < threshold);
         assert_eq!(rt;
-            answer_of(rt.alloc(), text, &Plain(pair), &Plain(base), &Plain(i128::from(threshold)))?
-                .as_str(),
+            answer_of(
+                rt.alloc(),
+                text,
+                &Plain(pair),
+                &Plain(base),
+                &Plain(i128::from(threshold))
+            )?
+            .as_str(),
             expected,
             "at {text:?} {pair} {base} {threshold}"
         );
@@ -221,19 +227,37 @@ fn fine(fine: i128) -> Pair {
 #[test]
 fn tables_of_two_levels(rt: HostRuntime) -> Result<(), Fail> {
     let mut expected = String::new(rt.alloc());
-    for row in [[0, -5, -10, -5], [6, 0, -4, 1], [11, 5, 0, 6], [6, 0, -5, 0]] {
+    for row in [
+        [0, -5, -10, -5],
+        [6, 0, -4, 1],
+        [11, 5, 0, 6],
+        [6, 0, -5, 0],
+    ] {
         write!(expected, ";")?;
         for total in row {
             write!(expected, " {:?}", fine(total))?;
         }
     }
     assert_eq!(rt;
-        answer_of(rt.alloc(), b"abAB", &fine(-5), &fine(1), &Pair { bulk: 0, fine: 1 })?,
+        answer_of(
+            rt.alloc(),
+            b"abAB",
+            &fine(-5),
+            &fine(1),
+            &Pair { bulk: 0, fine: 1 }
+        )?,
         expected
     );
     let bulk = Pair { bulk: 1, fine: -9 };
     assert_eq!(rt;
-        answer_of(rt.alloc(), b"abAB", &fine(0), &bulk, &Pair { bulk: 1, fine: -8 })?.as_str(),
+        answer_of(
+            rt.alloc(),
+            b"abAB",
+            &fine(0),
+            &bulk,
+            &Pair { bulk: 1, fine: -8 }
+        )?
+        .as_str(),
         "polygon [0, 3, 2, 1]"
     );
     Ok(())

@@ -1,4 +1,4 @@
-use Rattle.std.proofs.Common.{◌≡◌, List, ◌∷◌, [], ◌++◌, refl, ap, ◌∙◌}
+use Rattle.std.proofs.Common.{List, ◌∷◌, [], ◌++◌, refl, ap, ◌∙◌}
 use Rattle.sc_tables.specs.declared.search.Node.{Node}
 use Rattle.sc_tables.proofs.explore.begin.Goals as goal
 
@@ -14,5 +14,5 @@ returns g c =
       );
       len = c.in_ok-first_row.ensures.len;
       start = c.in_ok-first_row.ensures.start c.requires;
-      others = c.in_ok-first_row.ensures.others
+      others = c.in_ok-first_row.ensures.others;
     }

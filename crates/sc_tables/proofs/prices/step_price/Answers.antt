@@ -1,12 +1,10 @@
-use Rattle.std.proofs.Common.{◌≡◌, ℕ, ◌<◌, List, Some, length, slice_get, arith, refl, sym, ap, subst, ◌∙◌, rules}
+use Rattle.std.proofs.Common.{◌≡◌, ℕ, ◌<◌, List, length, arith, refl, sym, ap, subst, ◌∙◌}
 use Rattle.std.proofs.lemmas.Option.{slice_get_read}
 use Rattle.std.proofs.lemmas.Result.{err_from_is_err_and}
-use Rattle.sc_theory.specs.Chains.{succ, letter}
-use Rattle.sc_theory.specs.Words.{inverse_letter}
+use Rattle.sc_theory.specs.Chains.{succ}
 use Rattle.sc_theory.specs.Walks.{IsStep}
 use Rattle.sc_theory.specs.Prices.{pairs}
-use Rattle.sc_chain.specs.Pairs.{row_in}
-use Rattle.sc_tables.specs.StepPrices.{pair_levels, base_levels, signed_levels}
+use Rattle.sc_tables.specs.StepPrices.{pair_levels}
 use Rattle.sc_tables.proofs.StepCells.{pairs_fit, pair_is, row_at, step_at, step_is, turn_is}
 use Rattle.sc_weight.specs.Levels.{Levels, levels_sum}
 use Rattle.sc_weight.specs.Evidence.{IsFirstWideLevel}
@@ -23,8 +21,8 @@ returns-in_err-price-clause-faults g c =
     let inside : c.in-Some.row < length c.args.pair.now = omega (arith, c.in-Some.ensures.in_range, c.requires.pair) in
     let p = err_from_is_err_and c.from_residual.result c.from_residual.ensures.1 in
     rw (p.1, p.2) (turn_is g.W.Weight.levels c.args.chain.now c.args.pair.now c.args.base.now c.in-Some.row c.index-pair-row.result _
-      (slice_get_read c.args.pair.now _ c.in-Some.row c.index-pair-row.result refl inside c.index-pair-row.is)
-      c.in_err-price.ensures.faults)
+    (slice_get_read c.args.pair.now _ c.in-Some.row c.index-pair-row.result refl inside c.index-pair-row.is)
+    c.in_err-price.ensures.faults)
 
 pub overflow_cast-result : goal.overflow_cast-result
 overflow_cast-result g c = omega (arith, c.requires.few, c.requires.from)
@@ -38,8 +36,7 @@ priced g c =
     let inside : c.in-Some.row < length c.args.pair.now = omega (arith, c.in-Some.ensures.in_range, c.requires.pair) in
     let here = slice_get_read c.args.pair.now _ c.in-Some.row c.index-pair-row.result refl inside c.index-pair-row.is in
     let at = row_at c.args.chain.now c.args.pairs.now c.args.from c.args.to c.succ.result c.in-Some.row c.in-Some.sign c.requires.pairs c.succ.ensures.succ c.in-Some.ensures.row in
-    let size : length c.args.pair.now ≡ length (pairs c.args.chain.now) = c.requires.pair ∙ ap (λ (ps : List (ℕ × ℕ)). length ps) c.requires.pairs in
-    (
+    let size : length c.args.pair.now ≡ length (pairs c.args.chain.now) = c.requires.pair ∙ ap (λ (ps : List (ℕ × ℕ)). length ps) c.requires.pairs in (
       step_at c.args.chain.now c.args.from c.args.to c.succ.result c.requires.from c.requires.to c.succ.ensures.succ ((c.in-Some.ensures.inverse c.args.chain.now c.requires.pairs c.succ.ensures.in_range c.requires.to).0 refl),
       c.in_ok-price.ensures.price ∙ sym (pair_is g.W.Weight.levels c.args.chain.now c.args.pair.now (succ c.args.chain.now c.args.from) c.args.to c.in-Some.row c.index-pair-row.result size here c.in-Some.sign at),
     )
@@ -51,9 +48,8 @@ returns-in-Ok-clause-price g c =
 
 pub returns-in-Err-clause-faults : goal.returns-in-Err-clause-faults
 returns-in-Err-clause-faults g c =
-    let p = priced g ((goal.at.returns-in-Err-clause-faults g c).In_ok-price) in
-    (
+    let p = priced g ((goal.at.returns-in-Err-clause-faults g c).In_ok-price) in (
       p.0,
       subst (λ (z : Levels). IsFirstWideLevel Add (levels_sum (pair_levels g.W.Weight.levels c.args.chain.now c.args.pair.now (succ c.args.chain.now c.args.from) c.args.to) z) (pair_levels g.W.Weight.levels c.args.chain.now c.args.pair.now (succ c.args.chain.now c.args.from) c.args.to) z c.in-Err.fault) c.base_at.ensures
-      (subst (λ (y : Levels). IsFirstWideLevel Add (levels_sum y (g.W.Weight.levels c.base_at.result)) y (g.W.Weight.levels c.base_at.result) c.in-Err.fault) p.1 c.in-Err.ensures.evidence),
+          (subst (λ (y : Levels). IsFirstWideLevel Add (levels_sum y (g.W.Weight.levels c.base_at.result)) y (g.W.Weight.levels c.base_at.result) c.in-Err.fault) p.1 c.in-Err.ensures.evidence),
     )

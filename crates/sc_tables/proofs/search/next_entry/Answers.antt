@@ -1,4 +1,4 @@
-use Rattle.std.proofs.Common.{◌≡◌, ℕ, true, List, ◌∷◌, [], ◌++◌, length, Option, Some, None, refl, sym, ap, subst, ◌∙◌, slice_get}
+use Rattle.std.proofs.Common.{◌≡◌, ℕ, List, ◌∷◌, [], ◌++◌, length, Some, None, sym, subst, ◌∙◌, slice_get}
 use Rattle.sc_tables.specs.declared.search.Node.{Node}
 use Rattle.sc_tables.specs.Totals.{IsBelow, IsAtMost}
 use Rattle.sc_tables.specs.Searches.{Grows, IsGrowing, IsNext}
@@ -21,7 +21,7 @@ returns-then-not-is_better-clause-next g c =
     c.in-Some.best
     (covers-along g.W.Weight.levels c.args.prices.now c.as_slice-walks.result.now c.args.nodes.now.items c.args.round.fresh c.args.round.end c.args.place c.in_ok-best.field-0 (Some c.in-Some.best) c.as_slice-walks.ensures.value c.in-Some.is c.in_ok-best.ensures.covers)
     (subst (λ (ns : List (Node g.row.W.Denot)). (n : ℕ) × (x : Node g.row.W.Denot) × (c.args.entry ≡ Some n) × (slice_get ns n ≡ Some x) × IsAtMost (g.W.Weight.levels x.total) (g.W.Weight.levels c.in-Some.best.total)) c.as_slice-walks.ensures.value
-      (c.is_better.ensures.kept c.if-not-is_better.true))
+    (c.is_better.ensures.kept c.if-not-is_better.true))
 
 pub returns-clause-growing : goal.returns-clause-growing
 returns-clause-growing g c =
@@ -37,10 +37,10 @@ pub returns-clause-next : goal.returns-clause-next
 returns-clause-next g c =
     let len : c.len-node.result ≡ length c.args.nodes.now.items = c.len-node.ensures ∙ c.args.nodes.now.ok.0 in
     let next =
-      next_new g.W.Weight.levels c.args.prices.now c.args.nodes.now.items c.args.round.fresh c.args.round.end c.args.round.start c.args.place c.args.entry c.requires.growing.within c.requires.entry
-      c.if-place-round.false c.in-Some.best c.args.round.steps
-      (covers-along g.W.Weight.levels c.args.prices.now c.as_slice-walks.result.now c.args.nodes.now.items c.args.round.fresh c.args.round.end c.args.place c.in_ok-best.field-0 (Some c.in-Some.best) c.as_slice-walks.ensures.value c.in-Some.is c.in_ok-best.ensures.covers)
-      (subst (λ (ns : List (Node g.row.W.Denot)). (n : ℕ) (x : Node g.row.W.Denot) → c.args.entry ≡ Some n → slice_get ns n ≡ Some x → IsBelow (g.W.Weight.levels c.in-Some.best.total) (g.W.Weight.levels x.total)) c.as_slice-walks.ensures.value
-        (c.is_better.ensures.better c.if-not-is_better.false)) in
+    next_new g.W.Weight.levels c.args.prices.now c.args.nodes.now.items c.args.round.fresh c.args.round.end c.args.round.start c.args.place c.args.entry c.requires.growing.within c.requires.entry
+    c.if-place-round.false c.in-Some.best c.args.round.steps
+    (covers-along g.W.Weight.levels c.args.prices.now c.as_slice-walks.result.now c.args.nodes.now.items c.args.round.fresh c.args.round.end c.args.place c.in_ok-best.field-0 (Some c.in-Some.best) c.as_slice-walks.ensures.value c.in-Some.is c.in_ok-best.ensures.covers)
+    (subst (λ (ns : List (Node g.row.W.Denot)). (n : ℕ) (x : Node g.row.W.Denot) → c.args.entry ≡ Some n → slice_get ns n ≡ Some x → IsBelow (g.W.Weight.levels c.in-Some.best.total) (g.W.Weight.levels x.total)) c.as_slice-walks.ensures.value
+    (c.is_better.ensures.better c.if-not-is_better.false)) in
     subst (λ (ns : List (Node g.row.W.Denot)). IsNext g.W.Weight.levels c.args.prices.now ns c.args.round.fresh c.args.round.end c.args.round.start c.args.place c.args.entry (Some c.len-node.result)) (sym c.in_ok-push.ensures.items)
     (subst (λ (n : ℕ). IsNext g.W.Weight.levels c.args.prices.now (c.args.nodes.now.items ++ record { place = c.args.place; before = c.in-Some.best.node; steps = c.args.round.steps; total = c.in-Some.best.total } ∷ []) c.args.round.fresh c.args.round.end c.args.round.start c.args.place c.args.entry (Some n)) (sym len) next)

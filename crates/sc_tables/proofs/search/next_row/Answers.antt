@@ -1,4 +1,4 @@
-use Rattle.std.proofs.Common.{◌≡◌, ℕ, ◌+◌, List, ◌∷◌, [], ◌++◌, length, get_or, Option, None, sym, subst, ◌∙◌}
+use Rattle.std.proofs.Common.{◌≡◌, ℕ, ◌+◌, List, length, get_or, Option, None, sym, subst}
 use Rattle.sc_tables.specs.Searches.{IsGrowing, IsNext, AreNextBelow}
 use Rattle.sc_tables.proofs.NextRows.{row_entry, row_step}
 use Rattle.sc_tables.proofs.search.next_row.Goals as goal
@@ -15,4 +15,4 @@ loop-place-preserved g c =
     let next = subst (λ (n : ℕ). IsNext g.W.Weight.levels c.args.prices.now c.next_entry.new.nodes.items c.args.round.fresh n c.args.round.start c.loop-place.place (get_or c.args.row.now c.loop-place.place None) c.in_ok-next_entry.field-0) len c.in_ok-next_entry.ensures.next in
     subst (λ (os : List (Option ℕ)). AreNextBelow g.W.Weight.levels c.args.prices.now c.args.nodes.now.items c.next_entry.new.nodes.items c.args.round.fresh c.args.round.start c.args.round.steps c.args.row.now os (c.loop-place.place + 1)) (sym c.in_ok-push.ensures.items)
     (row_step g.W.Weight.levels c.args.prices.now c.args.nodes.now.items c.loop-place.nodes.items c.args.round.fresh c.args.round.start c.args.round.steps c.args.row.now c.loop-place.next.items c.loop-place.place
-      c.next_entry.new.nodes.items c.in_ok-next_entry.field-0 c.loop-place.invariant c.requires.entries c.loop-place-test.true c.in_ok-next_entry.ensures.grows growing next)
+    c.next_entry.new.nodes.items c.in_ok-next_entry.field-0 c.loop-place.invariant c.requires.entries c.loop-place-test.true c.in_ok-next_entry.ensures.grows growing next)

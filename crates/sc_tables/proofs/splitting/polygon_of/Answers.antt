@@ -1,6 +1,5 @@
 use Rattle.std.proofs.Common.{◌≡◌, List, ℕ, ◌-◌, ◌++◌, length, take, drop, ap, sym, subst, ◌∙◌}
 use Rattle.std.proofs.lemmas.Bool.{false≢true}
-use Rattle.sc_theory.specs.Walks.{IsPolygon}
 use Rattle.sc_tables.specs.Splits.{IsPolygonOf}
 use Rattle.sc_tables.proofs.SplitSteps.{rest_whole, polygon_at}
 use Rattle.sc_tables.proofs.splitting.polygon_of.Goals as goal
@@ -11,7 +10,7 @@ turned c =
     c.in_ok-extend_from_slice-2.ensures.items
     ∙ ap (λ (ys : List ℕ). ys ++ take c.least_place-least.result c.args.cycle.now)
     (c.in_ok-extend_from_slice.ensures.items ∙ ap (λ (ys : List ℕ). ys ++ take (length c.args.cycle.now - c.least_place-least.result) (drop c.least_place-least.result c.args.cycle.now)) c.in_ok-walk.ensures.items
-      ∙ rest_whole c.args.cycle.now c.least_place-least.result)
+    ∙ rest_whole c.args.cycle.now c.least_place-least.result)
 
 valid : (c : After-of) → IsPolygonOf c.args.chain.now c.args.cycle.now c.extend_from_slice-2.new.self.items
 valid c =

@@ -1,5 +1,4 @@
-use Rattle.std.proofs.Common.{◌≡◌, List, ℕ, ◌+◌, ◌∷◌, [], ◌++◌, get_or, drop, arith, sym, subst, ap, ◌∙◌}
-
+use Rattle.std.proofs.Common.{◌≡◌, List, ℕ, ◌+◌, [], get_or, drop, arith, subst, ap, ◌∙◌}
 use Rattle.sc_tables.specs.Splits.{IsPolygonOf, IsSplitSoFar, walks_total}
 use Rattle.sc_tables.proofs.SplitSteps.{drop_here, drop_all, may_return, split_step, last_steps}
 use Rattle.sc_tables.proofs.splitting.polygons_of.Goals as goal
@@ -20,4 +19,4 @@ returns-clause-steps c =
     let none : drop c.loop-position.position-index c.args.walk.now ≡ [] = drop_all c.args.walk.now c.loop-position.position-index (omega arith) in
     let is = subst (λ (ys : List ℕ). IsPolygonOf c.args.chain.now ys c.in_ok-polygon_of.field-0) c.as_slice.ensures.value c.in_ok-polygon_of.ensures in
     λ f. ap (walks_total f) c.in_ok-push.ensures.items
-      ∙ last_steps c.args.chain.now c.args.walk.now c.loop-position.path.items (drop c.loop-position.position-index c.args.walk.now) c.loop-position.polygons.items c.loop-position.invariant none c.in_ok-polygon_of.field-0 is f
+    ∙ last_steps c.args.chain.now c.args.walk.now c.loop-position.path.items (drop c.loop-position.position-index c.args.walk.now) c.loop-position.polygons.items c.loop-position.invariant none c.in_ok-polygon_of.field-0 is f

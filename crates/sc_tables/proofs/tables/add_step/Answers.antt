@@ -1,5 +1,4 @@
-use Rattle.std.proofs.Common.{◌≡◌, ◌+◌, ◌<◌, ℕ, List, [], ◌∷◌, ◌++◌, get_or, take, arith, sym, subst, ap, ap₂, ◌∙◌}
-use Rattle.sc_theory.specs.Walks.{IsStep}
+use Rattle.std.proofs.Common.{◌≡◌, ◌+◌, ℕ, List, [], ◌∷◌, ◌++◌, get_or, take, arith, sym, subst, ap, ap₂, ◌∙◌}
 use Rattle.sc_weight.specs.Levels.{Levels, levels_sum}
 use Rattle.sc_weight.specs.Evidence.{IsFirstWideLevel}
 use Rattle.sc_whole.specs.declared.checked.Op.TheVariants.{Add}
@@ -29,9 +28,9 @@ pub returns-in_ok-push-in-Err-clause-faults : goal.returns-in_ok-push-in-Err-cla
 returns-in_ok-push-in-Err-clause-faults g c =
     let price = priced g ((goal.at.returns-in_ok-push-in-Err-clause-faults g c).After-price) in
     let evidence =
-      subst (λ (p : Levels). IsFirstWideLevel Add (levels_sum (total_after (price_in g.W.Weight.levels c.args.prices.now) c.args.walk.now c.args.place) p) (total_after (price_in g.W.Weight.levels c.args.prices.now) c.args.walk.now c.args.place) p c.in-Err.fault) price
-      (subst (λ (a : Levels). IsFirstWideLevel Add (levels_sum a (g.W.Weight.levels c.price.result)) a (g.W.Weight.levels c.price.result) c.in-Err.fault) c.requires.total c.in-Err.ensures.evidence) in
+    subst (λ (p : Levels). IsFirstWideLevel Add (levels_sum (total_after (price_in g.W.Weight.levels c.args.prices.now) c.args.walk.now c.args.place) p) (total_after (price_in g.W.Weight.levels c.args.prices.now) c.args.walk.now c.args.place) p c.in-Err.fault) price
+    (subst (λ (a : Levels). IsFirstWideLevel Add (levels_sum a (g.W.Weight.levels c.price.result)) a (g.W.Weight.levels c.price.result) c.in-Err.fault) c.requires.total c.in-Err.ensures.evidence) in
     let walk : c.push.new.self.items ≡ take (c.args.place + 1) c.args.walk.now ++ get_or (round c.args.walk.now) c.args.place 0 ∷ [] =
-      c.in_ok-push-in-Err.ensures.items ∙ ap₂ (λ (ys : List ℕ) (k : ℕ). ys ++ k ∷ []) c.in_ok-steps-in-Err.ensures.items c.next_on-to.ensures in
+    c.in_ok-push-in-Err.ensures.items ∙ ap₂ (λ (ys : List ℕ) (k : ℕ). ys ++ k ∷ []) c.in_ok-steps-in-Err.ensures.items c.next_on-to.ensures in
     subst (λ (ws : List ℕ). IsWideWalk c.args.chain.now (price_in g.W.Weight.levels c.args.prices.now) ws c.in-Err.fault.level c.in-Err.fault.wide) (sym walk)
     (wide_step c.args.chain.now (price_in g.W.Weight.levels c.args.prices.now) c.args.walk.now c.args.place c.in-Err.fault c.requires.polygon c.requires.place evidence)

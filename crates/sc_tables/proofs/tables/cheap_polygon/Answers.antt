@@ -1,7 +1,5 @@
-use Rattle.std.proofs.Common.{◌≡◌, ◌<◌, ℕ, ◌+◌, ◌*◌, List, Option, None, IfNone, Vec, Global, get_or, length, arith, sym, subst, ap, ◌∙◌}
+use Rattle.std.proofs.Common.{◌≡◌, ◌<◌, ℕ, ◌+◌, ◌*◌, List, Option, None, IfNone, Vec, Global, get_or, length, arith, sym, subst, ◌∙◌}
 use Rattle.sc_theory.specs.Chains.{positions}
-use Rattle.sc_weight.specs.Levels.{Levels}
-use Rattle.sc_tables.specs.Squares.{Square}
 use Rattle.sc_tables.specs.Rows.{IsSearched}
 use Rattle.sc_tables.specs.StepPrices.{price_in}
 use Rattle.sc_tables.specs.Trails.{AreTotalsAfter}
@@ -20,8 +18,8 @@ loop-start-preserved g c =
     let inside : c.loop-start.start < positions c.args.chain.now = omega (arith, c.loop-start-test.true, c.positions-side.ensures.positions) in
     let done = subst (λ (o : Option (Vec ℕ Global)). IfNone o (IsDone g.W.Weight.levels c.args.chain.now c.args.prices.now (g.W.Weight.levels c.args.threshold.now) c.loop-start.start c.closed_walk.new.trails.nodes.items c.closed_walk.new.trails.row.items)) c.in_default.is c.in_ok-walk.ensures.done in
     let totals =
-      subst (λ (os : List (Option ℕ)). AreTotalsAfter c.closed_walk.new.trails.nodes.items os c.loop-start.cells.items c.append_totals.new.cells.items (length os)) c.as_slice-in-loop-start-2.ensures.value
-      (subst (λ (ns : List (Node g.row.W.Denot)). AreTotalsAfter ns c.as_slice-in-loop-start-2.result.now c.loop-start.cells.items c.append_totals.new.cells.items (length c.as_slice-in-loop-start-2.result.now)) c.as_slice-in-loop-start.ensures.value c.in_ok-append_totals.ensures) in
+    subst (λ (os : List (Option ℕ)). AreTotalsAfter c.closed_walk.new.trails.nodes.items os c.loop-start.cells.items c.append_totals.new.cells.items (length os)) c.as_slice-in-loop-start-2.ensures.value
+    (subst (λ (ns : List (Node g.row.W.Denot)). AreTotalsAfter ns c.as_slice-in-loop-start-2.result.now c.loop-start.cells.items c.append_totals.new.cells.items (length c.as_slice-in-loop-start-2.result.now)) c.as_slice-in-loop-start.ensures.value c.in_ok-append_totals.ensures) in
     next_searched g.W.Weight.levels c.args.chain.now c.args.prices.now (g.W.Weight.levels c.args.threshold.now) c.loop-start.start c.closed_walk.new.trails.nodes.items c.closed_walk.new.trails.row.items
     c.requires.prices inside c.in_ok-walk.ensures.walks done c.loop-start.cells.items c.append_totals.new.cells.items c.loop-start.invariant totals
 

@@ -1,4 +1,4 @@
-use Rattle.std.proofs.Common.{◌≡◌, ◌*◌, ◌/◌, ◌%◌, ◌+◌, List, Option, sym, subst, arith, ◌∙◌}
+use Rattle.std.proofs.Common.{◌≡◌, ◌*◌, ◌+◌, List, Option, sym, subst, arith}
 use Rattle.sc_tables.specs.StepPrices.{AreCells}
 use Rattle.sc_tables.proofs.StepCells.{next_cell, for_chain, prices_are}
 use Rattle.sc_tables.proofs.prices.StepPrices.build.Goals as goal
@@ -18,7 +18,7 @@ pub returns-clause-prices : goal.returns-clause-prices
 returns-clause-prices g c =
     let end : c.loop-cell.cell ≡ c.positions-side.result * c.positions-side.result = omega (arith, c.loop-cell-test.false, c.loop-cell.auto.cell-end) in
     let are =
-      subst (λ (ps : List g.row.W.Denot). AreCells g.W.Weight.levels c.args.chain.now ps c.args.base.now.items c.positions-side.result (c.positions-side.result * c.positions-side.result) c.loop-cell.cells.items) c.as_slice-pair.ensures.value
-      (subst (λ (bs : List g.row.W.Denot). AreCells g.W.Weight.levels c.args.chain.now c.as_slice-pair.result.now bs c.positions-side.result (c.positions-side.result * c.positions-side.result) c.loop-cell.cells.items) c.as_slice-base.ensures.value
-        (subst (λ n. AreCells g.W.Weight.levels c.args.chain.now c.as_slice-pair.result.now c.as_slice-base.result.now c.positions-side.result n c.loop-cell.cells.items) end c.loop-cell.invariant)) in
+    subst (λ (ps : List g.row.W.Denot). AreCells g.W.Weight.levels c.args.chain.now ps c.args.base.now.items c.positions-side.result (c.positions-side.result * c.positions-side.result) c.loop-cell.cells.items) c.as_slice-pair.ensures.value
+    (subst (λ (bs : List g.row.W.Denot). AreCells g.W.Weight.levels c.args.chain.now c.as_slice-pair.result.now bs c.positions-side.result (c.positions-side.result * c.positions-side.result) c.loop-cell.cells.items) c.as_slice-base.ensures.value
+    (subst (λ n. AreCells g.W.Weight.levels c.args.chain.now c.as_slice-pair.result.now c.as_slice-base.result.now c.positions-side.result n c.loop-cell.cells.items) end c.loop-cell.invariant)) in
     prices_are g.W.Weight.levels c.args.chain.now c.args.pair.now.items c.args.base.now.items (record { side = c.positions-side.result; cells = c.loop-cell.cells.items }) c.positions-side.ensures.positions are
