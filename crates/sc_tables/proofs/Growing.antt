@@ -1,13 +1,11 @@
 -- A list of walks that grows at its end.
-use Rattle.std.proofs.Common.{◌≡◌, ◌≢◌, ◌⊎◌, ℕ, zero, suc, ◌+◌, ◌<◌, ◌≤◌, List, [], ◌∷◌, ◌++◌, length, get_or, slice_get, Option, Some, None, arith, refl, sym, ap, subst, ◌∙◌, inl, inr, length-append, IfSome, true, false}
-use Rattle.std.proofs.lemmas.Bool.{cases_lt}
-use Rattle.std.proofs.lemmas.Option.{slice_get_within}
+use Rattle.std.proofs.Common.{◌≡◌, ◌≢◌, ◌⊎◌, ℕ, zero, suc, ◌<◌, ◌≤◌, List, [], ◌∷◌, ◌++◌, length, slice_get, Option, Some, None, arith, refl, sym, ap, subst, ◌∙◌, inl, inr, length-append}
 use Rattle.sc_weight.specs.Levels.{Levels, levels_sum}
-use Rattle.sc_tables.specs.Squares.{Square, cell}
+use Rattle.sc_tables.specs.Squares.{Square}
 use Rattle.sc_tables.specs.Totals.{IsBelow, IsAtMost}
 use Rattle.sc_tables.specs.declared.search.Node.{Node}
 use Rattle.sc_tables.specs.declared.search.Candidate.{Candidate}
-use Rattle.sc_tables.specs.Searches.{ArePlaced, IsCandidate, Under, Covers, Extends, AreWalks, IsGrowing, Grows, IsEnd, Lower, IsNext}
+use Rattle.sc_tables.specs.Searches.{ArePlaced, IsCandidate, Covers, Extends, IsGrowing, Grows, IsEnd, Lower, IsNext}
 use Rattle.sc_tables.proofs.Order.{at_most-refl, at_most-trans, at_most_from_below}
 use Rattle.sc_tables.proofs.Best.{same_item}
 

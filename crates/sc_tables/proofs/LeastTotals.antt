@@ -1,11 +1,11 @@
 -- Tables of least totals vouch for a threshold that every closed walk reaches.
-use Rattle.std.proofs.Common.{◌≡◌, ◌≢◌, ℕ, ◌<◌, List, [], ◌∷◌, ◌++◌, ℤ, pos, ◌+ℤ◌, Option, Some, None, arith, refl, sym, ap, subst, ◌∙◌}
+use Rattle.std.proofs.Common.{◌≡◌, ◌≢◌, ℕ, List, [], ◌∷◌, ◌++◌, ℤ, pos, ◌+ℤ◌, Option, Some, None, arith, refl, sym, ap, subst, ◌∙◌}
 use Rattle.std.specs.List.{AllByRecursion}
 use Rattle.std.proofs.lemmas.Int.{ints}
-use Rattle.sc_theory.specs.Chains.{Chain, positions}
+use Rattle.sc_theory.specs.Chains.{Chain}
 use Rattle.sc_theory.specs.Walks.{IsStep, total_back}
 use Rattle.sc_weight.specs.Levels.{Levels, zero_levels, levels_sum}
-use Rattle.sc_tables.specs.Walks.{WalksAlong, end_of, LeadsTo}
+use Rattle.sc_tables.specs.Walks.{end_of, LeadsTo}
 use Rattle.sc_tables.specs.Totals.{bulk_of, fine_of, total_along, open_total, closed_total, IsBelow, IsAtMost}
 use Rattle.sc_tables.specs.Tables.{AllAtLeast, IsLeast, IsLeastTotal, AreLeastTotals, VouchFor}
 use Rattle.sc_tables.proofs.WalkLaws.{walks-append, walks_back, end_of-append, total_along-append, total_back-is}

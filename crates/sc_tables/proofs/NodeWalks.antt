@@ -1,20 +1,18 @@
 -- The walks that the nodes of a search stand for.
-use Rattle.std.proofs.Common.{◌≡◌, ◌≢◌, ◌⊎◌, ℕ, zero, suc, ◌+◌, ◌<◌, ◌≤◌, List, [], ◌∷◌, ◌++◌, length, get_or, slice_get, Option, Some, None, arith, refl, sym, ap, subst, ◌∙◌, inl, inr, length-append}
+use Rattle.std.proofs.Common.{◌≡◌, ◌≢◌, ◌⊎◌, ℕ, zero, suc, ◌<◌, ◌≤◌, List, [], ◌∷◌, ◌++◌, length, slice_get, Some, arith, refl, sym, ap, subst, ◌∙◌, inl, inr, length-append}
 use Rattle.std.specs.List.{AllByRecursion}
-use Rattle.sc_theory.specs.Chains.{Chain, positions}
-use Rattle.sc_theory.specs.Walks.{IsStep, IsClosedWalk}
-use Rattle.sc_weight.specs.Levels.{Levels, zero_levels, levels_sum, levels_cmp}
-use Rattle.std.specs.Ordering.{is_lt}
+use Rattle.sc_theory.specs.Chains.{Chain}
+use Rattle.sc_theory.specs.Walks.{IsStep}
+use Rattle.sc_weight.specs.Levels.{Levels, levels_sum}
 use Rattle.sc_tables.specs.Squares.{Square, cell, level_of}
 use Rattle.sc_tables.specs.Walks.{WalksAlong, end_of, LeadsTo}
-use Rattle.sc_tables.specs.Totals.{open_total, closed_total, IsBelow, IsAtMost}
+use Rattle.sc_tables.specs.Totals.{open_total}
 use Rattle.sc_tables.specs.StepPrices.{AreForChain, price_in}
 use Rattle.sc_tables.specs.declared.search.Node.{Node}
-use Rattle.sc_tables.specs.Searches.{AreWalks, Extends, Closes}
-use Rattle.sc_tables.proofs.WalkLaws.{walks_front, walks_rest, walks_back, end_of-append}
+use Rattle.sc_tables.specs.Searches.{AreWalks, Extends}
+use Rattle.sc_tables.proofs.WalkLaws.{walks_front, walks_rest, end_of-append}
 use Rattle.sc_tables.proofs.Repeats.{all_front, all_rest}
-use Rattle.sc_tables.proofs.LeastTotals.{leads-step, open_total-step, closed_total-back, stays}
-use Rattle.sc_tables.proofs.Best.{same_item}
+use Rattle.sc_tables.proofs.LeastTotals.{leads-step, open_total-step, stays}
 
 -- ---- the last step of a walk
 unsnoc : (x : ℕ) (xs : List ℕ) → (front : List ℕ) × (z : ℕ) × (x ∷ xs ≡ front ++ z ∷ [])

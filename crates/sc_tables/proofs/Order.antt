@@ -1,8 +1,7 @@
 -- The order of pairs of whole numbers.
-use Rattle.std.proofs.Common.{◌≡◌, ◌⊎◌, true, false, ℤ, pos, ◌+ℤ◌, ◌<ℤ◌, ◌≤ℤ◌, arith, subst}
-use Rattle.std.specs.Ordering.{is_lt, int_cmp, ordering_then}
+use Rattle.std.proofs.Common.{arith, subst}
 use Rattle.std.proofs.lemmas.Int.{ints}
-use Rattle.sc_weight.specs.Levels.{Levels, zero_levels, levels_sum, levels_cmp}
+use Rattle.sc_weight.specs.Levels.{Levels, zero_levels, levels_sum}
 use Rattle.sc_weight.specs.Laws.{levels_sum_assoc}
 use Rattle.sc_tables.specs.Totals.{IsBelow, IsAtMost}
 

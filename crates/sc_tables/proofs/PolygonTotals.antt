@@ -1,11 +1,11 @@
 -- The total of a closed walk, step by step.
-use Rattle.std.proofs.Common.{◌≡◌, ◌≢◌, ◌⊎◌, ℕ, zero, suc, ◌+◌, ◌<◌, ◌≤◌, List, [], ◌∷◌, ◌++◌, length, get_or, take, ℤ, pos, ◌+ℤ◌, arith, refl, sym, ap, ap₂, subst, ◌∙◌, length-append, length-take}
+use Rattle.std.proofs.Common.{◌≡◌, ℕ, zero, suc, ◌+◌, ◌<◌, ◌≤◌, List, [], ◌∷◌, ◌++◌, length, get_or, take, arith, refl, sym, ap, subst, ◌∙◌, length-append, length-take}
 use Rattle.std.specs.List.{AllByRecursion}
 use Rattle.std.proofs.Math.Seq.{take-length}
 use Rattle.std.proofs.lemmas.List.{take_more}
 use Rattle.std.proofs.lemmas.Int.{ints}
 use Rattle.sc_theory.specs.Chains.{Chain, positions}
-use Rattle.sc_theory.specs.Walks.{IsStep, WalksBack, IsClosedWalk, IsPolygon, HasNoRepeat, walk_total}
+use Rattle.sc_theory.specs.Walks.{IsStep, WalksBack, IsClosedWalk, IsPolygon}
 use Rattle.sc_theory.proofs.WalkTotals.{climb, walk_total-climb}
 use Rattle.sc_weight.specs.Levels.{Levels, zero_levels, levels_sum}
 use Rattle.sc_weight.specs.Laws.{levels_sum_zero}
@@ -17,7 +17,7 @@ use Rattle.sc_tables.specs.Totals.{bulk_of, fine_of, open_total, closed_total, I
 use Rattle.sc_tables.specs.Tables.{IsPolygonBelow}
 use Rattle.sc_tables.specs.Splits.{walks_total, HaveStepsOf}
 use Rattle.sc_tables.specs.CheapPolygons.{round, total_after, IsWideWalk, IsClosedBelow}
-use Rattle.sc_tables.proofs.Order.{at_most-trans, threshold_sum, at_most_below}
+use Rattle.sc_tables.proofs.Order.{threshold_sum, at_most_below}
 use Rattle.sc_tables.proofs.WalkLaws.{walks-append, walks_out, walks_front, last_step, closed_inside}
 use Rattle.sc_tables.proofs.Repeats.{simple_is_short}
 use Rattle.sc_tables.proofs.LeastTotals.{open_total-step, closed_total-back}

@@ -1,10 +1,11 @@
 -- A closed walk below a threshold above 0 contains a polygon below it.
-use Rattle.std.proofs.Common.{◌≡◌, ◌≢◌, ◌⊎◌, ℕ, zero, suc, ◌+◌, ◌<◌, ◌≤◌, Bool, true, false, List, [], ◌∷◌, ◌++◌, length, ℤ, ◌+ℤ◌, arith, inl, inr, refl, sym, ap, subst, ◌∙◌, length-append}
+use Rattle.std.proofs.Common.{◌≡◌, ◌≢◌, ℕ, zero, suc, ◌+◌, ◌<◌, ◌≤◌, List, [], ◌∷◌, ◌++◌, length, ℤ, ◌+ℤ◌, arith, inl, inr, refl, sym, ap, subst, ◌∙◌, length-append}
 use Rattle.std.specs.List.{AllByRecursion}
 use Rattle.std.specs.Ordering.{is_lt}
+use Rattle.std.proofs.lemmas.List.{append-nil, append_assoc}
 use Rattle.std.proofs.lemmas.Bool.{cases_Bool, cases_lt}
-use Rattle.sc_theory.specs.Chains.{Chain, positions}
-use Rattle.sc_theory.specs.Walks.{IsClosedWalk, IsPolygon, IsFromLeast, HasNoRepeat, walk_total}
+use Rattle.sc_theory.specs.Chains.{Chain}
+use Rattle.sc_theory.specs.Walks.{IsClosedWalk, IsPolygon, HasNoRepeat, walk_total}
 use Rattle.sc_weight.specs.Levels.{Levels, zero_levels, levels_sum, levels_cmp}
 use Rattle.sc_tables.specs.Totals.{bulk_of, fine_of, closed_total, IsBelow, IsAtMost}
 use Rattle.sc_tables.specs.Tables.{AllAtLeast, IsPolygonBelow}
@@ -25,24 +26,12 @@ put_last [] x simple away = (tt, tt)
 put_last (y ∷ xs) x simple away =
     (all-append (λ j. y ≢ j) xs (x ∷ []) simple.0 ((λ e. away.0 (sym e)), tt), put_last xs x simple.1 away.1)
 
-pub regroup_list : (xs : List ℕ) (y : ℕ) (ys : List ℕ) → (xs ++ y ∷ []) ++ ys ≡ xs ++ y ∷ ys
-regroup_list [] y ys = refl
-regroup_list (x ∷ xs) y ys = ap (λ (zs : List ℕ). x ∷ zs) (regroup_list xs y ys)
-
-pub append-nil : (xs : List ℕ) → xs ++ [] ≡ xs
-append-nil [] = refl
-append-nil (x ∷ xs) = ap (λ (ys : List ℕ). x ∷ ys) (append-nil xs)
-
 pub simple-turned : (a b : List ℕ) → HasNoRepeat (a ++ b) → HasNoRepeat (b ++ a)
 simple-turned [] b simple = subst HasNoRepeat (sym (append-nil b)) simple
 simple-turned (x ∷ a) b simple =
     let moved = put_last (a ++ b) x simple.1 simple.0 in
-    let at : (a ++ b) ++ x ∷ [] ≡ a ++ (b ++ x ∷ []) = assoc a b (x ∷ []) in
-    subst HasNoRepeat (regroup_list b x a) (simple-turned a (b ++ x ∷ []) (subst HasNoRepeat at moved))
-  where
-    assoc : (xs ys zs : List ℕ) → (xs ++ ys) ++ zs ≡ xs ++ (ys ++ zs)
-    assoc [] ys zs = refl
-    assoc (w ∷ xs) ys zs = ap (λ (vs : List ℕ). w ∷ vs) (assoc xs ys zs)
+    let at : (a ++ b) ++ x ∷ [] ≡ a ++ (b ++ x ∷ []) = append_assoc a b (x ∷ []) in
+    subst HasNoRepeat (append_assoc b (x ∷ []) a) (simple-turned a (b ++ x ∷ []) (subst HasNoRepeat at moved))
 
 -- the least number of a list, and what stands before and after it
 pub record LeastPlace (xs : List ℕ) : Type 0 where

@@ -1,5 +1,5 @@
 -- A walk that is read back from its end.
-use Rattle.std.proofs.Common.{◌≡◌, ◌≢◌, ℕ, zero, suc, ◌+◌, ◌<◌, ◌≤◌, List, [], ◌∷◌, ◌++◌, length, slice_get, reverse, Some, arith, refl, sym, ap, ap₂, subst, ◌∙◌, length-append}
+use Rattle.std.proofs.Common.{◌≡◌, ℕ, zero, suc, ◌<◌, ◌≤◌, List, [], ◌∷◌, ◌++◌, slice_get, reverse, Some, arith, sym, ap, ap₂, subst, ◌∙◌, length-append}
 use Rattle.std.proofs.lemmas.List.{reverse-append}
 use Rattle.std.proofs.lemmas.Option.{slice_get_within}
 use Rattle.sc_theory.specs.Chains.{Chain, positions}
@@ -9,13 +9,13 @@ use Rattle.sc_weight.specs.Laws.{levels_sum_assoc, levels_sum_zero, levels_sum_c
 use Rattle.sc_weight.specs.Evidence.{IsFirstWideLevel}
 use Rattle.sc_weight.specs.declared.level.WideLevel.{WideLevel}
 use Rattle.sc_whole.specs.declared.checked.Op.TheVariants.{Add}
-use Rattle.sc_tables.specs.Squares.{Square, cell}
-use Rattle.sc_tables.specs.Walks.{WalksAlong, end_of, LeadsTo}
+use Rattle.sc_tables.specs.Squares.{Square}
+use Rattle.sc_tables.specs.Walks.{WalksAlong, end_of}
 use Rattle.sc_tables.specs.Totals.{open_total, closed_total, IsBelow}
 use Rattle.sc_tables.specs.StepPrices.{AreForChain, price_in}
 use Rattle.sc_tables.specs.declared.search.Node.{Node}
 use Rattle.sc_tables.specs.Searches.{AreWalks, Extends, Closes, IsWideAt}
-use Rattle.sc_tables.specs.Trails.{IsWalkOf, ReadsTo, AreLinked, GoesTo, IsReadTo}
+use Rattle.sc_tables.specs.Trails.{ReadsTo, AreLinked, GoesTo, IsReadTo}
 use Rattle.sc_tables.specs.States.{StopsWithin}
 use Rattle.sc_tables.specs.declared.search.Stop.{Stop}
 use Rattle.sc_tables.specs.declared.search.Stop.TheVariants.{Wide, Memory}

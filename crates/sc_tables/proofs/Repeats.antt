@@ -1,8 +1,9 @@
 -- Lists without repeats, and lists with one.
-use Rattle.std.proofs.Common.{◌≡◌, ◌≢◌, ◌⊎◌, ℕ, zero, suc, ◌+◌, ◌<◌, ◌≤◌, List, [], ◌∷◌, ◌++◌, length, get_or, arith, inl, inr, refl, sym, ap, subst, ◌∙◌, length-append}
+use Rattle.std.proofs.Common.{◌≡◌, ◌≢◌, ◌⊎◌, ℕ, zero, suc, ◌<◌, ◌≤◌, List, [], ◌∷◌, ◌++◌, length, get_or, arith, inl, inr, sym, ap}
 use Rattle.std.specs.List.{AllByRecursion}
 use Rattle.std.proofs.lemmas.Bool.{cases_eq, cases_lt}
 use Rattle.sc_theory.specs.Walks.{HasNoRepeat}
+use Rattle.sc_chain.proofs.PolygonLaws.{apart}
 use Rattle.sc_algebra.proofs.Cycles.{pigeonhole}
 
 -- a place that stands in the list twice
@@ -43,12 +44,6 @@ all_at P [] all k inside = absurd (omega arith)
 all_at P (x ∷ xs) all zero inside = all.0
 all_at P (x ∷ xs) all (suc k) inside = all_at P xs all.1 k (omega arith)
 
-apart : (xs : List ℕ) → HasNoRepeat xs → (i j : ℕ) → i < j → j < length xs → get_or xs i 0 ≢ get_or xs j 0
-apart [] simple i j order inside = absurd (omega arith)
-apart (x ∷ xs) simple i zero order inside = absurd (omega arith)
-apart (x ∷ xs) simple zero (suc j) order inside = all_at (λ y. x ≢ y) xs simple.0 j (omega arith)
-apart (x ∷ xs) simple (suc i) (suc j) order inside = apart xs simple.1 i j (omega arith) (omega arith)
-
 -- a list without repeats of numbers below n has at most n of them
 pub simple_is_short : (n : ℕ) (xs : List ℕ) → HasNoRepeat xs → AllByRecursion (λ x. x < n) xs → length xs ≤ n
 simple_is_short n xs simple below = elim (cases_lt n (length xs)) [
@@ -58,7 +53,7 @@ simple_is_short n xs simple below = elim (cases_lt n (length xs)) [
   where
     clash : (i : ℕ) × (j : ℕ) × (i < j) × (j < suc n) × (get_or xs i 0 ≡ get_or xs j 0) → length xs ≤ n
     clash (i, j, order, within, same) = elim (cases_lt j (length xs)) [
-      | inl inside ↦ absurd (apart xs simple i j order inside same)
+      | inl inside ↦ absurd (apart xs i j simple order inside same)
       | inr past ↦ omega arith
     ]
 

@@ -1,13 +1,13 @@
 -- Rows that were searched from every start: their totals are the least, and every closed walk reaches the threshold.
-use Rattle.std.proofs.Common.{◌≡◌, ◌≢◌, ℕ, ◌<◌, ◌≤◌, List, [], ◌∷◌, length, Option, Some, None, true, false, arith, refl, sym, ap, subst, ◌∙◌}
+use Rattle.std.proofs.Common.{◌≡◌, ℕ, ◌<◌, List, [], ◌∷◌, length, Option, Some, None, refl, sym, ap, subst, ◌∙◌}
 use Rattle.std.specs.Ordering.{is_lt}
 use Rattle.std.proofs.lemmas.Bool.{false≢true}
 use Rattle.sc_theory.specs.Chains.{Chain, positions}
-use Rattle.sc_theory.specs.Walks.{IsStep, IsPolygon}
+use Rattle.sc_theory.specs.Walks.{IsStep}
 use Rattle.sc_weight.specs.Levels.{Levels, zero_levels, levels_sum, levels_cmp}
 use Rattle.sc_tables.specs.Walks.{end_of, LeadsTo}
 use Rattle.sc_tables.specs.Totals.{open_total, closed_total, IsBelow, IsAtMost}
-use Rattle.sc_tables.specs.Tables.{AllAtLeast, IsPolygonBelow, IsLeast, IsLeastTotal, AreLeastTotals, VouchFor}
+use Rattle.sc_tables.specs.Tables.{AllAtLeast, IsPolygonBelow, IsLeastTotal, AreLeastTotals, VouchFor}
 use Rattle.sc_tables.specs.Rows.{IsSearched}
 use Rattle.sc_tables.proofs.Order.{at_most-trans, at_most_from_below}
 use Rattle.sc_tables.proofs.WalkLaws.{walks_out, last_step, closed_inside}

@@ -1,24 +1,23 @@
 -- The rows of tables, from the searches.
-use Rattle.std.proofs.Common.{◌≡◌, ◌≢◌, ◌⊎◌, ℕ, zero, suc, ◌+◌, ◌*◌, ◌<◌, ◌≤◌, List, [], ◌∷◌, ◌++◌, length, get_or, slice_get, Option, Some, None, arith, refl, sym, ap, subst, ◌∙◌, inl, inr}
+use Rattle.std.proofs.Common.{◌≡◌, ℕ, ◌+◌, ◌*◌, ◌<◌, List, [], ◌∷◌, length, get_or, slice_get, Option, Some, None, arith, refl, sym, ap, subst, ◌∙◌, inl, inr}
 use Rattle.std.specs.Option.{option_map}
 use Rattle.std.proofs.lemmas.Bool.{cases_lt}
 use Rattle.std.proofs.lemmas.Nat.{mul-add-lt}
 use Rattle.sc_theory.specs.Chains.{Chain, positions}
-use Rattle.sc_theory.specs.Walks.{IsStep}
-use Rattle.sc_weight.specs.Levels.{Levels, levels_sum}
+use Rattle.sc_weight.specs.Levels.{Levels}
 use Rattle.sc_tables.specs.Squares.{Square}
 use Rattle.sc_tables.specs.Walks.{WalksAlong, end_of, LeadsTo}
 use Rattle.sc_tables.specs.Totals.{open_total, IsAtMost}
 use Rattle.sc_tables.specs.StepPrices.{AreForChain, price_in}
 use Rattle.sc_tables.specs.declared.search.Node.{Node}
-use Rattle.sc_tables.specs.Searches.{AreWalks, AreEnds, Lower}
+use Rattle.sc_tables.specs.Searches.{AreWalks, Lower}
 use Rattle.sc_tables.specs.States.{IsDone}
 use Rattle.sc_tables.specs.Rows.{IsSearched}
 use Rattle.sc_tables.specs.Trails.{IsTotalOf, AreTotalsAfter}
 use Rattle.sc_tables.specs.CheapPolygons.{AreSearched}
 use Rattle.sc_tables.proofs.Best.{same_item}
 use Rattle.sc_tables.proofs.NodeWalks.{walk_of}
-use Rattle.sc_tables.proofs.States.{LowerAt, lower_at, end_place}
+use Rattle.sc_tables.proofs.States.{end_place}
 
 end_inside : (c : Chain) (i : ℕ) (js : List ℕ) → i < positions c → WalksAlong c i js → end_of i js < positions c
 end_inside c i [] inside walks = inside

@@ -1,11 +1,11 @@
 -- Walks of fewer steps than there are positions suffice where no closed walk is negative.
-use Rattle.std.proofs.Common.{◌≡◌, ◌≢◌, ◌⊎◌, ℕ, zero, suc, ◌+◌, ◌<◌, ◌≤◌, List, [], ◌∷◌, ◌++◌, length, ℤ, ◌+ℤ◌, Option, Some, None, arith, inl, inr, refl, sym, ap, subst, ◌∙◌, length-append}
+use Rattle.std.proofs.Common.{◌≡◌, ◌≢◌, ℕ, zero, suc, ◌+◌, ◌<◌, List, ◌∷◌, ◌++◌, length, ℤ, ◌+ℤ◌, arith, inl, inr, sym, ap, subst, ◌∙◌, length-append}
 use Rattle.std.specs.List.{AllByRecursion}
 use Rattle.sc_theory.specs.Chains.{Chain, positions}
-use Rattle.sc_theory.specs.Walks.{IsStep, IsClosedWalk, HasNoRepeat, walk_total}
+use Rattle.sc_theory.specs.Walks.{walk_total}
 use Rattle.sc_weight.specs.Levels.{Levels, zero_levels, levels_sum}
 use Rattle.sc_tables.specs.Walks.{WalksAlong, end_of, LeadsTo}
-use Rattle.sc_tables.specs.Totals.{bulk_of, fine_of, total_along, open_total, closed_total, IsBelow, IsAtMost}
+use Rattle.sc_tables.specs.Totals.{bulk_of, fine_of, total_along, open_total, closed_total, IsAtMost}
 use Rattle.sc_tables.specs.Tables.{AllAtLeast}
 use Rattle.sc_tables.proofs.Order.{at_most-refl, at_most-trans, at_most_rest}
 use Rattle.sc_tables.proofs.WalkLaws.{end_of-append, open_between, open_rest, total_along-cut, places_inside}

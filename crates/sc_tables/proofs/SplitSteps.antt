@@ -2,18 +2,14 @@
 use Rattle.std.proofs.Common.{◌≡◌, ◌≢◌, ◌⊎◌, ℕ, zero, suc, ◌+◌, ◌-◌, ◌<◌, ◌≤◌, List, [], ◌∷◌, ◌++◌, length, get_or, take, drop, ℤ, pos, ◌+ℤ◌, arith, length-drop, refl, sym, ap, subst, ◌∙◌, inl, inr}
 use Rattle.std.specs.List.{AllByRecursion}
 use Rattle.std.proofs.Math.Seq.{take-length}
-use Rattle.std.proofs.lemmas.List.{take_more}
+use Rattle.std.proofs.lemmas.List.{append-nil, append_assoc, take_more}
 use Rattle.std.proofs.lemmas.Int.{ints}
 use Rattle.sc_theory.specs.Chains.{Chain}
 use Rattle.sc_theory.specs.Walks.{IsClosedWalk, IsPolygon, HasNoRepeat, walk_total}
 use Rattle.sc_tables.specs.Splits.{walks_total, IsPolygonOf, GoesOn, CutsOff, IsSplitSoFar, HaveStepsOf}
 use Rattle.sc_tables.proofs.WalkLaws.{cut_between, cut_rest, total-cut, total-turned}
-use Rattle.sc_tables.proofs.Polygons.{polygon_from, put_last, append-nil}
+use Rattle.sc_tables.proofs.Polygons.{polygon_from, put_last}
 use Rattle.sc_tables.proofs.Repeats.{all_front}
-
-append_assoc : (xs ys zs : List ℕ) → (xs ++ ys) ++ zs ≡ xs ++ (ys ++ zs)
-append_assoc [] ys zs = refl
-append_assoc (x ∷ xs) ys zs = ap (λ (vs : List ℕ). x ∷ vs) (append_assoc xs ys zs)
 
 pub rest_whole : (xs : List ℕ) (k : ℕ) → take (length xs - k) (drop k xs) ≡ drop k xs
 rest_whole xs k = ap (λ (n : ℕ). take n (drop k xs)) (sym (length-drop k xs)) ∙ take-length (drop k xs)

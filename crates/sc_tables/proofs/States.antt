@@ -1,22 +1,22 @@
 -- One round of a search, and its end.
-use Rattle.std.proofs.Common.{◌≡◌, ◌≢◌, ◌⊎◌, ℕ, zero, suc, ◌+◌, ◌<◌, ◌≤◌, List, [], ◌∷◌, ◌++◌, length, get_or, slice_get, Option, Some, None, arith, refl, sym, ap, subst, ◌∙◌, inl, inr, length-append}
+use Rattle.std.proofs.Common.{◌≡◌, ◌≢◌, ◌⊎◌, ℕ, zero, suc, ◌+◌, ◌<◌, ◌≤◌, List, [], ◌∷◌, length, get_or, slice_get, Option, Some, None, arith, refl, sym, ap, subst, ◌∙◌, inl, inr, length-append}
 use Rattle.std.proofs.lemmas.Bool.{cases_lt, cases_eq}
 use Rattle.sc_theory.specs.Chains.{Chain, positions}
 use Rattle.sc_theory.specs.Walks.{IsStep}
 use Rattle.sc_weight.specs.Levels.{Levels, zero_levels, levels_sum}
 use Rattle.sc_tables.specs.Squares.{Square, cell}
 use Rattle.sc_tables.specs.Walks.{LeadsTo}
-use Rattle.sc_tables.specs.Totals.{open_total, IsBelow, IsAtMost}
+use Rattle.sc_tables.specs.Totals.{open_total, IsAtMost}
 use Rattle.sc_tables.specs.StepPrices.{AreForChain, price_in}
 use Rattle.sc_tables.specs.declared.search.Node.{Node}
 use Rattle.sc_tables.specs.Searches.{AreWalks, AllReach, IsGrowing, Grows, IsEnd, AreEnds, Lower, IsNext}
 use Rattle.sc_tables.specs.States.{IsBegun, CoversWalks, ReachBack, IsState, IsDone}
 use Rattle.sc_tables.proofs.Order.{at_most-refl, at_most-trans, at_most-sum}
-use Rattle.sc_tables.proofs.LeastTotals.{open_total-step, no_steps}
+use Rattle.sc_tables.proofs.LeastTotals.{open_total-step}
 use Rattle.sc_tables.proofs.Best.{same_item}
-use Rattle.sc_tables.proofs.Growing.{lower-grows, lower-trans, item_before}
+use Rattle.sc_tables.proofs.Growing.{lower-trans, item_before}
 use Rattle.sc_tables.proofs.NextRows.{end_below}
-use Rattle.sc_tables.proofs.NodeWalks.{LastStep, last_step_of, price_at}
+use Rattle.sc_tables.proofs.NodeWalks.{last_step_of, price_at}
 
 -- ---- entries
 pub entry_inside : (row : List (Option ℕ)) (i n : ℕ) → get_or row i None ≡ Some n → i < length row

@@ -1,15 +1,14 @@
 -- The price of a step, from the row of its pair and the base price of its end.
-use Rattle.std.proofs.Common.{◌≡◌, ℕ, zero, suc, ◌+◌, ◌*◌, ◌/◌, ◌%◌, ◌<◌, ◌≤◌, ◌^◌, Bool, true, false, List, [], ◌∷◌, ◌++◌, length, get_or, map, slice_get, Option, Some, None, ℤ, pos, neg_ℤ, ◌-ℤ◌, arith, refl, sym, ap, ap₂, subst, ◌∙◌, length-append, inl, inr}
-use Rattle.std.specs.List.{filter, flat_map, range_with_len}
+use Rattle.std.proofs.Common.{◌≡◌, ℕ, ◌+◌, ◌*◌, ◌/◌, ◌%◌, ◌<◌, ◌≤◌, ◌^◌, Bool, List, [], ◌∷◌, ◌++◌, length, get_or, map, slice_get, Option, Some, None, ℤ, pos, neg_ℤ, ◌-ℤ◌, arith, refl, sym, ap, ap₂, subst, ◌∙◌, length-append, inl, inr}
+use Rattle.std.specs.List.{filter, flat_map}
 use Rattle.std.proofs.Math.Seq.{get_or-append_seam}
-use Rattle.std.proofs.Math.Nat.{mul-le-mul_left}
 use Rattle.std.proofs.lemmas.Int.{ints}
 use Rattle.std.proofs.lemmas.Bool.{cases_Bool, cases_lt}
 use Rattle.std.proofs.lemmas.List.{get_or-map, length-map, get_or_append_left}
 use Rattle.std.proofs.lemmas.List.FromFn.{length-range_with_len}
 use Rattle.std.proofs.lemmas.Option.{get_or_from_slice_get, slice_get_within}
 use Rattle.std.proofs.lemmas.Nat.{div-mul-add, mod-mul-add, mul-add-lt}
-use Rattle.sc_weight.specs.Levels.{Levels, zero_levels, levels_sum, levels_difference}
+use Rattle.sc_weight.specs.Levels.{Levels, levels_sum}
 use Rattle.sc_weight.specs.Evidence.{at_level}
 use Rattle.sc_weight.specs.declared.level.Level.{Level}
 use Rattle.sc_weight.specs.declared.level.Level.TheVariants.{Bulk, Fine}

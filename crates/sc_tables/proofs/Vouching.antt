@@ -4,10 +4,9 @@ use Rattle.std.proofs.lemmas.Bool.{cases_eq}
 use Rattle.sc_theory.specs.Chains.{Chain, positions}
 use Rattle.sc_theory.specs.Walks.{IsStep, WalksBack, total_back}
 use Rattle.sc_weight.specs.Levels.{Levels, zero_levels, levels_sum}
-use Rattle.sc_tables.specs.Totals.{bulk_of, fine_of, closed_total, IsBelow, IsAtMost}
+use Rattle.sc_tables.specs.Totals.{bulk_of, fine_of, IsBelow, IsAtMost}
 use Rattle.sc_tables.specs.Tables.{VouchFor, AllAtLeast}
 use Rattle.sc_tables.proofs.Order.{through_start, past_start, at_most_zero_sum}
-use Rattle.sc_tables.proofs.WalkLaws.{walks_out, last_step}
 
 -- the exact total from i along js and back to the start
 abbrev pub back_total : (ℕ → ℕ → Levels) → ℕ → ℕ → List ℕ → Levels

@@ -1,7 +1,8 @@
 -- Walks that are put together, cut and turned, and their totals.
-use Rattle.std.proofs.Common.{◌≡◌, ◌≢◌, ℕ, suc, ◌+◌, ◌<◌, List, [], ◌∷◌, ◌++◌, length, ℤ, pos, ◌+ℤ◌, arith, refl, sym, ap, subst, ◌∙◌}
+use Rattle.std.proofs.Common.{◌≡◌, ℕ, ◌<◌, List, [], ◌∷◌, ◌++◌, ℤ, pos, ◌+ℤ◌, arith, refl, sym, ap, subst, ◌∙◌}
 use Rattle.std.specs.List.{AllByRecursion}
 use Rattle.std.proofs.lemmas.Int.{ints}
+use Rattle.std.proofs.lemmas.List.{append-nil}
 use Rattle.sc_theory.specs.Chains.{Chain, positions}
 use Rattle.sc_theory.specs.Walks.{IsStep, WalksBack, IsClosedWalk, total_back, walk_total}
 use Rattle.sc_tables.specs.Walks.{WalksAlong, end_of}
@@ -47,11 +48,8 @@ pub last_step : (c : Chain) (start i : ℕ) (js : List ℕ) → WalksBack c star
 last_step c start i [] walk = walk
 last_step c start i (j ∷ js) walk = last_step c start j js walk.1
 
-alone : (x : ℤ) → x ≡ pos 0 +ℤ x
-alone x = omega (arith, ints)
-
 pub total_back-is : (f : ℕ → ℕ → ℤ) (start i : ℕ) (js : List ℕ) → total_back f start i js ≡ total_along f i js +ℤ f (end_of i js) start
-total_back-is f start i [] = alone _
+total_back-is f start i [] = from_zero _
 total_back-is f start i (j ∷ js) = regroup _ _ _ (f i j) (total_back-is f start j js)
 
 -- ---- a closed walk that passes a place: the part up to there, and the part from there on
@@ -98,10 +96,6 @@ total-cut f (i ∷ a) b x d =
     ∙ ap (λ (t : ℤ). total_back f x x b +ℤ t) (sym (total-through f i i a x d))
 
 -- ---- a closed walk that is begun at another of its places
-append-nil : (xs : List ℕ) → xs ++ [] ≡ xs
-append-nil [] = refl
-append-nil (x ∷ xs) = ap (λ (ys : List ℕ). x ∷ ys) (append-nil xs)
-
 pub turned : (c : Chain) (a : List ℕ) (x : ℕ) (b : List ℕ) → IsClosedWalk c (a ++ x ∷ b) → IsClosedWalk c (x ∷ (b ++ a))
 turned c [] x b walk = subst (λ (ys : List ℕ). WalksBack c x x ys) (sym (append-nil b)) walk
 turned c (i ∷ a) x b walk = join c x x b i a (part_after c i i a x b walk) (part_before c i i a x b walk)

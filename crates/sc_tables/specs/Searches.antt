@@ -1,5 +1,5 @@
 -- The walks that a search for cheap walks keeps.
-use Rattle.std.specs.Prelude.{◌≡◌, ◌≢◌, ℕ, zero, suc, ◌<◌, ◌≤◌, List, length, get_or, slice_get, Option, Some, None, IfSome}
+use Rattle.std.specs.Prelude.{◌≡◌, ◌≢◌, ℕ, suc, ◌<◌, ◌≤◌, List, length, get_or, slice_get, Option, Some, None, IfSome}
 use Rattle.sc_weight.specs.Levels.{Levels, zero_levels, levels_sum}
 use Rattle.sc_weight.specs.Evidence.{IsFirstWideLevel}
 use Rattle.sc_weight.specs.declared.level.WideLevel.{WideLevel}

@@ -1,6 +1,6 @@
 -- The prices of a chain's steps.
 use Rattle.std.specs.Prelude.{◌≡◌, ℕ, ◌<◌, ◌/◌, ◌%◌, List, [], length, get_or, map, Option, Some, None, pos}
-use Rattle.sc_weight.specs.Levels.{Levels, zero_levels, levels_sum, levels_difference}
+use Rattle.sc_weight.specs.Levels.{Levels, zero_levels, levels_difference}
 use Rattle.sc_weight.specs.Evidence.{at_level}
 use Rattle.sc_weight.specs.declared.level.Level.{Level}
 use Rattle.sc_weight.specs.declared.level.Level.TheVariants.{Bulk, Fine}

@@ -1,7 +1,7 @@
 -- Exact totals of walks at prices of two levels, and their order.
 use Rattle.std.specs.Prelude.{◌≡◌, ℕ, true, false, List, [], ◌∷◌, ℤ, pos, ◌+ℤ◌}
 use Rattle.std.specs.Ordering.{is_lt}
-use Rattle.sc_weight.specs.Levels.{Levels, zero_levels, levels_cmp}
+use Rattle.sc_weight.specs.Levels.{Levels, levels_cmp}
 use Rattle.sc_theory.specs.Walks.{walk_total}
 
 -- the total of a price over the steps from i along js

@@ -1,5 +1,5 @@
 -- The walk of a node, read back from its end, and the totals of a row.
-use Rattle.std.specs.Prelude.{◌≡◌, ◌≢◌, ℕ, ◌+◌, ◌<◌, ◌≤◌, List, [], ◌∷◌, length, get_or, slice_get, reverse, Option, Some, None}
+use Rattle.std.specs.Prelude.{◌≡◌, ◌≢◌, ℕ, ◌+◌, ◌<◌, ◌≤◌, List, ◌∷◌, length, get_or, slice_get, reverse, Option, Some, None}
 use Rattle.std.specs.List.{AllByRecursion}
 use Rattle.sc_chain.specs.declared.limits.TheConstants.{MAX_POSITIONS}
 use Rattle.sc_theory.specs.Chains.{Chain}

@@ -2,10 +2,9 @@
 
 ghost use Rattle.std.specs.Prelude.{ℕ, ◌<◌, length, List, Option};
 ghost use Rattle.sc_theory.specs.Chains.{Chain, positions};
-ghost use Rattle.sc_theory.specs.Walks.{IsClosedWalk};
 ghost use Rattle.sc_weight.specs.Levels.{Levels, zero_levels};
 ghost use Rattle.sc_tables.specs.Walks.{LeadsTo};
-ghost use Rattle.sc_tables.specs.Totals.{open_total, closed_total, IsBelow, IsAtMost};
+ghost use Rattle.sc_tables.specs.Totals.{open_total, IsBelow, IsAtMost};
 ghost use Rattle.sc_tables.specs.Tables.{AllAtLeast, IsPolygonBelow, AreLeastTotals, VouchFor};
 
 /// A closed walk whose total is below a threshold above 0 contains a polygon whose total is below it: where no polygon is

@@ -1,10 +1,9 @@
 //! The search for the cheapest walks from a position.
 
-ghost use Rattle.std.specs.Prelude.{◌≡◌, ◌≢◌, ◌⊎◌, ◌<◌, ◌≤◌, ◌+◌, ℕ, true, false, length, get_or, slice_get, Option, Some, None, IfOk, IfErr, OnOk, IfSome, IfNone};
+ghost use Rattle.std.specs.Prelude.{◌≡◌, ◌⊎◌, ◌<◌, ◌≤◌, ◌+◌, ℕ, true, false, length, get_or, slice_get, Option, Some, None, IfOk, IfErr, OnOk, IfSome, IfNone};
 ghost use Rattle.std.specs.Ordering.{is_lt};
 ghost use Rattle.sc_weight.specs.Levels.{levels_cmp};
 ghost use Rattle.sc_tables.specs.Totals.{IsBelow, IsAtMost};
-ghost use Rattle.sc_tables.specs.Squares.{cell};
 ghost use Rattle.sc_tables.specs.Searches.{ArePlaced, IsCandidate, HasNoStep, IsStop, Under, Covers, Closes, AllReach, Grows, IsGrowing, IsEnd, IsNext, AreEnds};
 
 use crate::prices::StepPrices;

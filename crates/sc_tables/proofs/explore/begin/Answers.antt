@@ -1,4 +1,4 @@
-use Rattle.std.proofs.Common.{◌≡◌, List, ◌∷◌, [], ◌++◌, refl, ap, ◌∙◌}
+use Rattle.std.proofs.Common.{List, ◌∷◌, [], ◌++◌, refl, ap, ◌∙◌}
 use Rattle.sc_tables.specs.declared.search.Node.{Node}
 use Rattle.sc_tables.proofs.explore.begin.Goals as goal
 

@@ -1,12 +1,10 @@
-use Rattle.std.proofs.Common.{◌≡◌, ℕ, ◌<◌, List, Some, length, slice_get, arith, refl, sym, ap, subst, ◌∙◌, rules}
+use Rattle.std.proofs.Common.{◌≡◌, ℕ, ◌<◌, List, length, arith, refl, sym, ap, subst, ◌∙◌}
 use Rattle.std.proofs.lemmas.Option.{slice_get_read}
 use Rattle.std.proofs.lemmas.Result.{err_from_is_err_and}
-use Rattle.sc_theory.specs.Chains.{succ, letter}
-use Rattle.sc_theory.specs.Words.{inverse_letter}
+use Rattle.sc_theory.specs.Chains.{succ}
 use Rattle.sc_theory.specs.Walks.{IsStep}
 use Rattle.sc_theory.specs.Prices.{pairs}
-use Rattle.sc_chain.specs.Pairs.{row_in}
-use Rattle.sc_tables.specs.StepPrices.{pair_levels, base_levels, signed_levels}
+use Rattle.sc_tables.specs.StepPrices.{pair_levels}
 use Rattle.sc_tables.proofs.StepCells.{pairs_fit, pair_is, row_at, step_at, step_is, turn_is}
 use Rattle.sc_weight.specs.Levels.{Levels, levels_sum}
 use Rattle.sc_weight.specs.Evidence.{IsFirstWideLevel}

@@ -1,6 +1,4 @@
-use Rattle.std.proofs.Common.{◌≡◌, Some, ap, sym, subst, ◌∙◌, IfSome, ◌<◌, length}
-use Rattle.std.specs.Ordering.{is_lt}
-use Rattle.sc_tables.specs.declared.search.Candidate.{Candidate}
+use Rattle.std.proofs.Common.{Some, sym, ◌∙◌, length}
 use Rattle.sc_tables.proofs.Best.{closes_from, reach_from, reach_none, found-along}
 use Rattle.std.proofs.Common.{refl}
 use Rattle.sc_tables.proofs.search.closing.Goals as goal

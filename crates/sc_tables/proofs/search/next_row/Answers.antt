@@ -1,4 +1,4 @@
-use Rattle.std.proofs.Common.{◌≡◌, ℕ, ◌+◌, List, ◌∷◌, [], ◌++◌, length, get_or, Option, None, sym, subst, ◌∙◌}
+use Rattle.std.proofs.Common.{◌≡◌, ℕ, ◌+◌, List, length, get_or, Option, None, sym, subst}
 use Rattle.sc_tables.specs.Searches.{IsGrowing, IsNext, AreNextBelow}
 use Rattle.sc_tables.proofs.NextRows.{row_entry, row_step}
 use Rattle.sc_tables.proofs.search.next_row.Goals as goal

@@ -1,5 +1,4 @@
-use Rattle.std.proofs.Common.{length}
-use Rattle.sc_tables.specs.Searches.{IsGrowing, Grows, AreNextBelow}
+use Rattle.sc_tables.specs.Searches.{AreNextBelow}
 use Rattle.sc_tables.proofs.search.next_row.Given as goal
 
 abbrev pub invariant-loop-place : goal.invariant-loop-place

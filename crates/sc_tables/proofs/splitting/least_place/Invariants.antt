@@ -1,4 +1,3 @@
-use Rattle.std.proofs.Common.{ℕ, ◌<◌, ◌≤◌, get_or, length}
 use Rattle.sc_tables.specs.Splits.{IsLeastPlace}
 use Rattle.sc_tables.proofs.splitting.least_place.Given as goal
 

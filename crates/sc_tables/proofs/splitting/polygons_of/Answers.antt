@@ -1,4 +1,4 @@
-use Rattle.std.proofs.Common.{◌≡◌, List, ℕ, ◌+◌, ◌∷◌, [], ◌++◌, get_or, drop, arith, sym, subst, ap, ◌∙◌}
+use Rattle.std.proofs.Common.{◌≡◌, List, ℕ, ◌+◌, [], get_or, drop, arith, subst, ap, ◌∙◌}
 use Rattle.sc_tables.specs.Splits.{IsPolygonOf, IsSplitSoFar, walks_total}
 use Rattle.sc_tables.proofs.SplitSteps.{drop_here, drop_all, may_return, split_step, last_steps}
 use Rattle.sc_tables.proofs.splitting.polygons_of.Goals as goal

@@ -1,5 +1,4 @@
-use Rattle.std.proofs.Common.{◌≡◌, ◌+◌, ◌<◌, ℕ, List, [], ◌∷◌, ◌++◌, get_or, take, arith, sym, subst, ap, ap₂, ◌∙◌}
-use Rattle.sc_theory.specs.Walks.{IsStep}
+use Rattle.std.proofs.Common.{◌≡◌, ◌+◌, ℕ, List, [], ◌∷◌, ◌++◌, get_or, take, arith, sym, subst, ap, ap₂, ◌∙◌}
 use Rattle.sc_weight.specs.Levels.{Levels, levels_sum}
 use Rattle.sc_weight.specs.Evidence.{IsFirstWideLevel}
 use Rattle.sc_whole.specs.declared.checked.Op.TheVariants.{Add}

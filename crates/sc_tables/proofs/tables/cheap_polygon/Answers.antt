@@ -1,7 +1,5 @@
-use Rattle.std.proofs.Common.{◌≡◌, ◌<◌, ℕ, ◌+◌, ◌*◌, List, Option, None, IfNone, Vec, Global, get_or, length, arith, sym, subst, ap, ◌∙◌}
+use Rattle.std.proofs.Common.{◌≡◌, ◌<◌, ℕ, ◌+◌, ◌*◌, List, Option, None, IfNone, Vec, Global, get_or, length, arith, sym, subst, ◌∙◌}
 use Rattle.sc_theory.specs.Chains.{positions}
-use Rattle.sc_weight.specs.Levels.{Levels}
-use Rattle.sc_tables.specs.Squares.{Square}
 use Rattle.sc_tables.specs.Rows.{IsSearched}
 use Rattle.sc_tables.specs.StepPrices.{price_in}
 use Rattle.sc_tables.specs.Trails.{AreTotalsAfter}

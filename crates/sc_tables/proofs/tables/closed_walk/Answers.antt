@@ -1,4 +1,4 @@
-use Rattle.std.proofs.Common.{◌≡◌, ◌<◌, ◌≤◌, ℕ, List, length, Option, IfSome, arith, sym, subst}
+use Rattle.std.proofs.Common.{◌<◌, ◌≤◌, ℕ, List, length, Option, IfSome, arith, sym, subst}
 use Rattle.std.proofs.lemmas.Option.{slice_get_within}
 use Rattle.sc_theory.specs.Chains.{positions}
 use Rattle.sc_tables.specs.declared.search.Node.{Node}

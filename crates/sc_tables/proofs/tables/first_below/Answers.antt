@@ -1,8 +1,6 @@
-use Rattle.std.proofs.Common.{◌≡◌, ℕ, ◌+◌, ◌<◌, List, [], get_or, arith, sym, subst, ap, ◌∙◌, inl, inr}
-use Rattle.std.specs.Ordering.{is_lt}
+use Rattle.std.proofs.Common.{◌≡◌, ℕ, List, [], get_or, arith, sym, subst, ◌∙◌, inl, inr}
 use Rattle.std.proofs.lemmas.Bool.{cases_lt}
 use Rattle.std.proofs.lemmas.List.{get_or_default}
-use Rattle.sc_weight.specs.Levels.{Levels}
 use Rattle.sc_tables.specs.StepPrices.{price_in}
 use Rattle.sc_tables.specs.Totals.{closed_total, IsAtMost}
 use Rattle.sc_tables.proofs.tables.first_below.Goals as goal

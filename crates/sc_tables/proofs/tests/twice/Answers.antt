@@ -1,4 +1,4 @@
-use Rattle.std.proofs.Common.{◌≡◌, List, ℕ, ◌++◌, sym, subst, ap₂, ◌∙◌}
+use Rattle.std.proofs.Common.{List, ℕ, ◌++◌, sym, subst, ap₂, ◌∙◌}
 use Rattle.sc_theory.specs.Walks.{IsClosedWalk}
 use Rattle.sc_tables.proofs.WalkLaws.{closed_twice}
 use Rattle.sc_tables.proofs.tests.twice.Goals as goal

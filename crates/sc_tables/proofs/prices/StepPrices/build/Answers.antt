@@ -1,4 +1,4 @@
-use Rattle.std.proofs.Common.{◌≡◌, ◌*◌, ◌/◌, ◌%◌, ◌+◌, List, Option, sym, subst, arith, ◌∙◌}
+use Rattle.std.proofs.Common.{◌≡◌, ◌*◌, ◌+◌, List, Option, sym, subst, arith}
 use Rattle.sc_tables.specs.StepPrices.{AreCells}
 use Rattle.sc_tables.proofs.StepCells.{next_cell, for_chain, prices_are}
 use Rattle.sc_tables.proofs.prices.StepPrices.build.Goals as goal
