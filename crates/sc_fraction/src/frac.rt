@@ -4,9 +4,8 @@ ghost use Rattle.std.specs.Int.{IsGcd};
 
 use crate::FracFault;
 use crate::compare::compare_quotients;
-use crate::quotient::quotient;
 use crate::steps::{products, scaled_sum, turned};
-use sc_whole::{Op, Wide, gcd, print_decimal};
+use sc_whole::{Op, Wide, gcd, print_decimal, quotient};
 use std::alloc::AllocError;
 use std::cmp::Ordering;
 

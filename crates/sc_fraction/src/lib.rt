@@ -6,7 +6,6 @@ mod compare;
 mod fault;
 mod frac;
 mod laws;
-mod quotient;
 mod steps;
 #[cfg(test)]
 mod tests;

@@ -3,6 +3,7 @@
 
 mod checked;
 mod decimal;
+mod division;
 mod divisor;
 mod laws;
 #[cfg(test)]
@@ -10,5 +11,6 @@ mod tests;
 
 pub use checked::{Op, Wide, add, mul, sub};
 pub use decimal::{is_decimal, print_decimal, read_decimal};
+pub use division::quotient;
 pub use divisor::{gcd, gcd_of_sizes, lcm_within};
 pub use laws::spelling_has_one_reading;

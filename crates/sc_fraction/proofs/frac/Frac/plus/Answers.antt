@@ -3,7 +3,7 @@ use Rattle.std.specs.Int.{w128}
 use Rattle.sc_whole.proofs.DivisorLaws.{gcd_exists}
 use Rattle.sc_fraction.specs.Quotient.{SameQuotient}
 use Rattle.sc_fraction.proofs.Arithmetic.{divided_positive, mul_positive, sum_quotient}
-use Rattle.sc_fraction.proofs.Exact.{exact_quotient}
+use Rattle.sc_whole.proofs.ExactDivision.{exact_quotient}
 use Rattle.sc_fraction.proofs.frac.Frac.plus.Goals as goal
 
 pub lowest-requires : goal.lowest-requires

@@ -1,9 +1,9 @@
-//! Exact quotients.
+//! Exact division.
 ghost use Rattle.std.specs.Prelude.{◌≡◌, ◌<◌, pos, ◌*ℤ◌, unsigned_abs, int_div};
 ghost use Rattle.std.specs.Int.{◌∣◌};
 
 /// `x` divided by one of its divisors, which is up to 2^127.
-pub(crate) fn quotient(x: i128, divisor: u128) -> i128
+pub fn quotient(x: i128, divisor: u128) -> i128
     requires positive { 0 < divisor }
     requires divides { divisor ∣ unsigned_abs x }
     ensures value { result ≡ int_div x (pos divisor) }

@@ -1,7 +1,7 @@
 use Rattle.std.proofs.Common.{◌≡◌, ◌≤◌, ◌^◌, FitsSigned, to_z, of_z, to_z-of_z, ap, ◌∙◌, pos, ◌*ℤ◌, int_div, rules}
 use Rattle.std.specs.Int.{w128, int_signum}
-use Rattle.sc_fraction.proofs.Exact.{exact_quotient, wide_quotient, not_fits}
-use Rattle.sc_fraction.proofs.quotient.quotient.Goals as goal
+use Rattle.sc_whole.proofs.ExactDivision.{exact_quotient, wide_quotient, not_fits}
+use Rattle.sc_whole.proofs.division.quotient.Goals as goal
 
 -- what the division gives, as the other clause says
 divided : (c : goal.In-Ok) → to_z w128 (of_z w128 (int_div (to_z w128 (of_z w128 c.args.x)) (to_z w128 (of_z w128 c.in-Ok.divisor)))) ≡ int_div c.args.x (pos c.args.divisor)

@@ -1,15 +1,18 @@
 -- Exact division.
-use Rattle.std.proofs.Common.{◌≡◌, ℕ, zero, suc, ◌/◌, ◌^◌, ◌<◌, ◌≤◌, ℤ, pos, negsuc, ◌*ℤ◌, neg_ℤ, unsigned_abs, int_div, FitsSigned, inl, inr, ap, ◌∙◌, sym, arith}
+use Rattle.std.proofs.Common.{◌≡◌, ℕ, zero, suc, ◌*◌, ◌/◌, ◌^◌, ◌<◌, ◌≤◌, ℤ, pos, negsuc, ◌*ℤ◌, neg_ℤ, unsigned_abs, int_div, FitsSigned, inl, inr, ap, ◌∙◌, sym, arith}
 use Rattle.std.specs.Int.{◌∣◌, w128, int_signum}
 use Rattle.std.proofs.lemmas.Nat.Gcd.{le_of_dvd}
 use Rattle.std.proofs.Math.Nat.{mul-div_cancel', div_self, zero-div}
 use Rattle.std.proofs.lemmas.Bool.{cases_lt}
-use Rattle.sc_fraction.specs.Ints.{mul-neg_z}
+use Rattle.std.proofs.lemmas.Int.{ints}
+
+times_negative : (m n : ℕ) → pos m *ℤ neg_ℤ (pos n) ≡ neg_ℤ (pos (m * n))
+times_negative m n = grind (arith, ints)
 
 -- a number divided by one of its divisors
 pub exact_quotient : (x : ℤ) (g : ℕ) → g ∣ unsigned_abs x → pos g *ℤ int_div x (pos g) ≡ x
 exact_quotient (pos n) g h = ap pos (mul-div_cancel' g h)
-exact_quotient (negsuc n) g h = mul-neg_z (pos g) (pos (suc n / g)) ∙ ap (λ k. neg_ℤ (pos k)) (mul-div_cancel' g h)
+exact_quotient (negsuc n) g h = times_negative g (suc n / g) ∙ ap (λ k. neg_ℤ (pos k)) (mul-div_cancel' g h)
 
 -- a divisor above all numbers of 128 bits is 2^127, and its multiples are 0 and the least number
 least_multiple : (n g : ℕ) → n < 2 ^ 127 → 2 ^ 127 ≤ g → g ∣ suc n → g ≡ suc n
