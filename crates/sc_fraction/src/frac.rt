@@ -2,9 +2,8 @@
 ghost use Rattle.std.specs.Prelude.{pos, unsigned_abs, ◌<ℤ◌};
 ghost use Rattle.std.specs.Int.{IsGcd};
 
-use crate::FracFault;
-use crate::compare::compare_quotients;
 use crate::steps::{products, scaled_sum, turned};
+use crate::{FracFault, compare_ratios};
 use sc_whole::{Op, Wide, gcd, print_decimal, quotient};
 use std::alloc::AllocError;
 use std::cmp::Ordering;
@@ -170,14 +169,7 @@ impl Ord for Frac {
     ghost matches_eq = { frac_eq_is };
 
     fn cmp(&self, other: &Frac) -> Ordering {
-        let (own, across) = (self.num.unsigned_abs(), other.num.unsigned_abs());
-        let (own_den, across_den) = (self.den.unsigned_abs(), other.den.unsigned_abs());
-        match (self.num < 0, other.num < 0) {
-            (false, false) => compare_quotients(own, own_den, across, across_den),
-            (true, true) => compare_quotients(across, across_den, own, own_den),
-            (true, false) => Ordering::Less,
-            (false, true) => Ordering::Greater,
-        }
+        compare_ratios(self.num, self.den, other.num, other.den)
     }
 }
 

@@ -10,6 +10,7 @@ mod steps;
 #[cfg(test)]
 mod tests;
 
+pub use compare::compare_ratios;
 pub use fault::FracFault;
 pub use frac::Frac;
 pub use laws::equal_values_are_equal_fractions;
