@@ -5,7 +5,7 @@ use Rattle.std.proofs.Math.Seq.{take-length}
 use Rattle.std.proofs.lemmas.List.{take_more}
 use Rattle.std.proofs.lemmas.Int.{ints}
 use Rattle.sc_theory.specs.Chains.{Chain, positions}
-use Rattle.sc_theory.specs.Walks.{IsStep, WalksBack, IsClosedWalk, IsPolygon}
+use Rattle.sc_theory.specs.Walks.{IsStep, WalksBack, IsClosedWalk, IsPolygon, walks_total}
 use Rattle.sc_theory.proofs.WalkTotals.{climb, walk_total-climb}
 use Rattle.sc_weight.specs.Levels.{Levels, zero_levels, levels_sum}
 use Rattle.sc_weight.specs.Laws.{levels_sum_zero}
@@ -15,7 +15,7 @@ use Rattle.sc_whole.specs.declared.checked.Op.TheVariants.{Add}
 use Rattle.sc_tables.specs.Walks.{WalksAlong, end_of}
 use Rattle.sc_tables.specs.Totals.{bulk_of, fine_of, open_total, closed_total, IsBelow, IsAtMost}
 use Rattle.sc_tables.specs.Tables.{IsPolygonBelow}
-use Rattle.sc_tables.specs.Splits.{walks_total, HaveStepsOf}
+use Rattle.sc_tables.specs.Splits.{HaveStepsOf}
 use Rattle.sc_tables.specs.CheapPolygons.{round, total_after, IsWideWalk, IsClosedBelow}
 use Rattle.sc_tables.proofs.Order.{threshold_sum, at_most_below}
 use Rattle.sc_tables.proofs.WalkLaws.{walks-append, walks_out, walks_front, last_step, closed_inside}

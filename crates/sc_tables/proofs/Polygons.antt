@@ -41,7 +41,7 @@ pub record LeastPlace (xs : List ℕ) : Type 0 where
   pub is : xs ≡ before ++ place ∷ after
   pub least : AllByRecursion (λ j. place ≤ j) xs
 
-least_place : (x : ℕ) (xs : List ℕ) → LeastPlace (x ∷ xs)
+pub least_place : (x : ℕ) (xs : List ℕ) → LeastPlace (x ∷ xs)
 least_place x [] = record { before = []; place = x; after = []; is = refl; least = (omega arith, tt) }
 least_place x (y ∷ xs) =
     let p = least_place y xs in

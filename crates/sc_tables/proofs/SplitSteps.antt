@@ -5,8 +5,8 @@ use Rattle.std.proofs.Math.Seq.{take-length}
 use Rattle.std.proofs.lemmas.List.{append-nil, append_assoc, take_more}
 use Rattle.std.proofs.lemmas.Int.{ints}
 use Rattle.sc_theory.specs.Chains.{Chain}
-use Rattle.sc_theory.specs.Walks.{IsClosedWalk, IsPolygon, HasNoRepeat, walk_total}
-use Rattle.sc_tables.specs.Splits.{walks_total, IsPolygonOf, GoesOn, CutsOff, IsSplitSoFar, HaveStepsOf}
+use Rattle.sc_theory.specs.Walks.{IsClosedWalk, IsPolygon, HasNoRepeat, walk_total, walks_total}
+use Rattle.sc_tables.specs.Splits.{IsPolygonOf, GoesOn, CutsOff, IsSplitSoFar, HaveStepsOf}
 use Rattle.sc_tables.proofs.WalkLaws.{cut_between, cut_rest, total-cut, total-turned}
 use Rattle.sc_tables.proofs.Polygons.{polygon_from, put_last}
 use Rattle.sc_tables.proofs.Repeats.{all_front}

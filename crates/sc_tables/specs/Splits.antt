@@ -1,13 +1,8 @@
 -- Closed walks that are split into polygons.
-use Rattle.std.specs.Prelude.{◌≡◌, ◌≢◌, ℕ, ◌<◌, ◌≤◌, List, [], ◌∷◌, ◌++◌, length, get_or, ℤ, pos, ◌+ℤ◌}
+use Rattle.std.specs.Prelude.{◌≡◌, ◌≢◌, ℕ, ◌<◌, ◌≤◌, List, [], ◌∷◌, ◌++◌, length, get_or, ℤ, ◌+ℤ◌}
 use Rattle.std.specs.List.{AllByRecursion}
 use Rattle.sc_theory.specs.Chains.{Chain}
-use Rattle.sc_theory.specs.Walks.{IsClosedWalk, IsPolygon, HasNoRepeat, walk_total}
-
--- the total of a price over the steps of several closed walks
-abbrev pub walks_total : (ℕ → ℕ → ℤ) → List (List ℕ) → ℤ
-walks_total price [] = pos 0
-walks_total price (w ∷ ws) = walk_total price w +ℤ walks_total price ws
+use Rattle.sc_theory.specs.Walks.{IsClosedWalk, IsPolygon, HasNoRepeat, walk_total, walks_total}
 
 -- the steps of the closed walks, counted with repeats, are those of the closed walk: at every price they have its total
 abbrev pub HaveStepsOf : List (List ℕ) → List ℕ → Type 0

@@ -23,19 +23,19 @@ abbrev offset : Chain → ℕ → ℕ
 offset c i = i - first c (word_of c i)
 
 -- 1 at one step, 0 at the others
-abbrev at_step : ℕ → ℕ → ℕ → ℕ → ℤ
+abbrev pub at_step : ℕ → ℕ → ℕ → ℕ → ℤ
 at_step i j a b = if eqb a i && eqb b j then pos 1 else pos 0
 
 -- what a step adds to the row of the pair p, q
-abbrev pair_part : Chain → ℕ → ℕ → ℕ → ℕ → ℤ
+abbrev pub pair_part : Chain → ℕ → ℕ → ℕ → ℕ → ℤ
 pair_part c p q i j = at_step (prev c p) q i j -ℤ at_step (prev c q) p i j
 
 -- what a step adds to the row number k
-abbrev step_column : Chain → ℕ → ℕ → ℕ → ℤ
+abbrev pub step_column : Chain → ℕ → ℕ → ℕ → ℤ
 step_column c k i j =
     if ltb k (length (pairs c)) then pair_part c (pair_at c k).0 (pair_at c k).1 i j else ends_at (λ b. eqb b (first c (word_at c k))) i j
 
-column_is : (c : Chain) (walk : List ℕ) (k : ℕ) → column c walk k ≡ walk_total (step_column c k) walk
+pub column_is : (c : Chain) (walk : List ℕ) (k : ℕ) → column c walk k ≡ walk_total (step_column c k) walk
 column_is c walk k =
     let p : ℕ = (pair_at c k).0 in
     let q : ℕ = (pair_at c k).1 in

@@ -30,6 +30,11 @@ abbrev pub walk_total : (ℕ → ℕ → ℤ) → List ℕ → ℤ
 walk_total price [] = pos 0
 walk_total price (i ∷ js) = total_back price i i js
 
+-- the total of a price over the steps of several closed walks
+abbrev pub walks_total : (ℕ → ℕ → ℤ) → List (List ℕ) → ℤ
+walks_total price [] = pos 0
+walks_total price (w ∷ ws) = walk_total price w +ℤ walks_total price ws
+
 -- the positions after the first are greater than it, and no two are the same
 abbrev pub IsFromLeast : List ℕ → Type 0
 IsFromLeast [] = ⊥

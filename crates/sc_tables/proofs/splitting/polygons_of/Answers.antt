@@ -1,5 +1,6 @@
 use Rattle.std.proofs.Common.{◌≡◌, List, ℕ, ◌+◌, [], get_or, drop, arith, subst, ap, ◌∙◌}
-use Rattle.sc_tables.specs.Splits.{IsPolygonOf, IsSplitSoFar, walks_total}
+use Rattle.sc_theory.specs.Walks.{walks_total}
+use Rattle.sc_tables.specs.Splits.{IsPolygonOf, IsSplitSoFar}
 use Rattle.sc_tables.proofs.SplitSteps.{drop_here, drop_all, may_return, split_step, last_steps}
 use Rattle.sc_tables.proofs.splitting.polygons_of.Goals as goal
 
