@@ -1,0 +1,48 @@
+-- Products of lists: linear in each factor; the product with a unit is an entry.
+use Rattle.std.specs.Prelude.{◌≡◌, ◌≢◌, ℕ, zero, suc, ◌+◌, ◌<◌, ◌==◌, if◌then◌else◌, ℤ, pos, negsuc, ◌+ℤ◌, ◌-ℤ◌, ◌*ℤ◌, neg_ℤ}
+use Rattle.std.proofs.Common.{arith, refl, sym, ap, ap₂, ◌∙◌, eq-eqb, ne_eqb}
+use Rattle.std.proofs.lemmas.Int.{ints}
+use Rattle.sc_algebra.specs.Sums.{sum_below}
+use Rattle.sc_algebra.proofs.Sums.{sum-congr, sum-add, sum-sub, sum-mul_left, sum-single}
+use Rattle.sc_algebra.proofs.Ints.{products}
+use Rattle.sc_basis.specs.Products.{dot, unit}
+
+pub unit_same : (i : ℕ) → unit i i ≡ pos 1
+unit_same i = rw (eq-eqb i i refl) refl
+
+pub unit_other : (i k : ℕ) → k ≢ i → unit i k ≡ pos 0
+unit_other i k apart = rw (ne_eqb k i apart) refl
+
+-- the product with a unit is an entry
+pub dot-unit : (r j : ℕ) (x : ℕ → ℤ) → j < r → dot r x (unit j) ≡ x j
+dot-unit r j x inside =
+    sum-single (λ k. x k *ℤ unit j k) r j inside (λ k l apart. rw (unit_other j k apart) (omega (arith, ints)))
+    ∙ rw (unit_same j) (omega (arith, ints))
+
+pub dot-congr : (r : ℕ) (x y v w : ℕ → ℤ) → ((k : ℕ) → k < r → x k ≡ y k) → ((k : ℕ) → k < r → v k ≡ w k) → dot r x v ≡ dot r y w
+dot-congr r x y v w e f = sum-congr (λ k. x k *ℤ v k) (λ k. y k *ℤ w k) r (λ k l. ap₂ (λ (s t : ℤ). s *ℤ t) (e k l) (f k l))
+
+pub dot-add : (r : ℕ) (x y v : ℕ → ℤ) → dot r (λ k. x k +ℤ y k) v ≡ dot r x v +ℤ dot r y v
+dot-add r x y v =
+    sum-congr (λ k. (x k +ℤ y k) *ℤ v k) (λ k. x k *ℤ v k +ℤ y k *ℤ v k) r (λ k l. simp products (omega (arith, ints)))
+    ∙ sum-add (λ k. x k *ℤ v k) (λ k. y k *ℤ v k) r
+
+pub dot-sub : (r : ℕ) (x y v : ℕ → ℤ) → dot r (λ k. x k -ℤ y k) v ≡ dot r x v -ℤ dot r y v
+dot-sub r x y v =
+    sum-congr (λ k. (x k -ℤ y k) *ℤ v k) (λ k. x k *ℤ v k -ℤ y k *ℤ v k) r (λ k l. simp products (omega (arith, ints)))
+    ∙ sum-sub (λ k. x k *ℤ v k) (λ k. y k *ℤ v k) r
+
+pub dot-mul : (r : ℕ) (a : ℤ) (x v : ℕ → ℤ) → dot r (λ k. a *ℤ x k) v ≡ a *ℤ dot r x v
+dot-mul r a x v =
+    sum-congr (λ k. (a *ℤ x k) *ℤ v k) (λ k. a *ℤ (x k *ℤ v k)) r (λ k l. simp products (omega (arith, ints)))
+    ∙ sum-mul_left a (λ k. x k *ℤ v k) r
+
+-- a x + b y
+pub dot-combine : (r : ℕ) (a b : ℤ) (x y v : ℕ → ℤ) → dot r (λ k. a *ℤ x k +ℤ b *ℤ y k) v ≡ a *ℤ dot r x v +ℤ b *ℤ dot r y v
+dot-combine r a b x y v =
+    dot-add r (λ k. a *ℤ x k) (λ k. b *ℤ y k) v ∙ ap₂ (λ (s t : ℤ). s +ℤ t) (dot-mul r a x v) (dot-mul r b y v)
+
+-- a x - b y
+pub dot-difference : (r : ℕ) (a b : ℤ) (x y v : ℕ → ℤ) → dot r (λ k. a *ℤ x k -ℤ b *ℤ y k) v ≡ a *ℤ dot r x v -ℤ b *ℤ dot r y v
+dot-difference r a b x y v =
+    dot-sub r (λ k. a *ℤ x k) (λ k. b *ℤ y k) v ∙ ap₂ (λ (s t : ℤ). s -ℤ t) (dot-mul r a x v) (dot-mul r b y v)

@@ -1,0 +1,9 @@
+pub mod Products
+pub mod Bases
+pub mod Standing
+pub mod Lines
+pub mod Pivots
+pub mod Journals
+pub mod Values
+pub mod Evidence
+pub mod Examples
