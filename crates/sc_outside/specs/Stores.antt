@@ -6,9 +6,10 @@ abbrev pub told_unless : Bool → List ℕ → Option (List ℕ)
 told_unless true kept = None
 told_unless false kept = Some kept
 
--- the bytes that are left, and at most how many one call gives
+-- the bytes that are left, how many were given, and at most how many one call gives
 pub record Supply : Type 0 where
   pub left : List ℕ
+  pub given : ℕ
   pub piece : ℕ
 
 -- room for so many bytes, the bytes that were kept there, and whether more than that were taken
@@ -20,6 +21,7 @@ pub record Shelf : Type 0 where
 -- a supply, the numbers of the calls that fail, the next call's number, and the count of faults
 pub record FailingSupply : Type 0 where
   pub left : List ℕ
+  pub given : ℕ
   pub piece : ℕ
   pub fails : List ℕ
   pub calls : ℕ

@@ -31,7 +31,7 @@ impl Model for CalmSource {
 
     ghost Value = { Supply };
 
-    ghost view = { λ s. record { left = drop s.given s.bytes.items; piece = s.piece } };
+    ghost view = { λ s. record { left = drop s.given s.bytes.items; given = s.given; piece = s.piece } };
 
     ghost invariant = { λ s. (s.given ≤ vec_len s.bytes) × (0 < s.piece) };
 }
@@ -40,7 +40,7 @@ impl CalmSource {
     /// A source of exactly these bytes.
     pub fn new(bytes: Vec<u8>, piece: usize) -> CalmSource
         requires { 0 < piece }
-        ensures { result ≡ record { left = bytes.items; piece = piece } }
+        ensures { result ≡ record { left = bytes.items; given = 0; piece = piece } }
     {
         CalmSource {
             bytes,
@@ -57,11 +57,14 @@ impl Source for CalmSource {
 
     ghost stands = { λ _. false };
 
+    ghost given = { λ s. s.given };
+
     fn read(&mut self, room: &mut [u8]) -> Result<usize, Failed>
         ensures count { result ≡ Ok (min (length room.old)
             (min self.old.piece (length self.old.left))) }
         ensures next_bytes { IfOk result (λ k. self.old.left ≡ take k room.new ++ self.new.left) }
         ensures ended { result ≡ Ok 0 → 0 < length room.old → self.old.left ≡ [] }
+        ensures gave { IfOk result (λ k. self.new.given ≡ self.old.given + k) }
         ensures same_piece { self.new.piece ≡ self.old.piece }
     {
         let left = &self.bytes[self.given..];

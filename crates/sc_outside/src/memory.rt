@@ -1,5 +1,5 @@
 //! A source and a sink in memory whose calls fail as planned.
-ghost use Rattle.std.specs.Prelude.{◌≡◌, ◌+◌, ◌<◌, ◌≤◌, false, IsTrue, ◌↔◌, ◌⊎◌, Some, [], ◌++◌, length, take, min, IfOk, OnErr, IsErr, Contains};
+ghost use Rattle.std.specs.Prelude.{◌≡◌, ◌+◌, ◌<◌, ◌≤◌, false, IsTrue, ◌↔◌, ◌⊎◌, Some, [], ◌++◌, length, take, min, IfOk, OnOk, OnErr, IsErr, Contains};
 ghost use Rattle.sc_outside.specs.Faults.{Rose, CountsFault, next_count, stands_at_last};
 ghost use Rattle.sc_outside.specs.Told.{Took};
 ghost use Rattle.sc_outside.specs.Stores.{told_unless};
@@ -26,7 +26,7 @@ impl Model for MemorySource {
 
     ghost Value = { FailingSupply };
 
-    ghost view = { λ s. record { left = s.calm.left; piece = s.calm.piece; fails = s.fails.items; calls = s.calls; faults = s.faults } };
+    ghost view = { λ s. record { left = s.calm.left; given = s.calm.given; piece = s.calm.piece; fails = s.fails.items; calls = s.calls; faults = s.faults } };
 }
 
 impl MemorySource {
@@ -35,6 +35,7 @@ impl MemorySource {
         requires { 0 < piece }
         ensures { result ≡ record {
           left = bytes.items;
+          given = 0;
           piece = piece;
           fails = fails.items;
           calls = 0;
@@ -59,6 +60,8 @@ impl Source for MemorySource {
 
     ghost calls = { λ s. s.calls };
 
+    ghost given = { λ s. s.given };
+
     fn read(&mut self, room: &mut [u8]) -> Result<usize, Failed>
         ensures fails { IsErr result ↔ Contains self.old.fails self.old.calls }
         ensures count { IfOk result (λ k. k ≡ min (length room.old)
@@ -66,12 +69,16 @@ impl Source for MemorySource {
         ensures next_bytes { IfOk result (λ k. self.old.left ≡ take k room.new ++ self.new.left) }
         ensures ended { result ≡ Ok 0 → 0 < length room.old → self.old.left ≡ [] }
         ensures nothing { OnErr result (self.new.left ≡ self.old.left) }
+        ensures gave { IfOk result (λ k. self.new.given ≡ self.old.given + k) }
+        ensures gave_nothing { OnErr result (self.new.given ≡ self.old.given) }
         ensures counts { CountsFault result self.old.faults self.new.faults }
         ensures fault { OnErr result (Rose self.old.faults self.new.faults
             (stands_at_last self.new.faults)) }
         ensures never_falls { self.old.faults ≤ self.new.faults }
         ensures stands_on { IsTrue (stands_at_last self.old.faults) →
             IsTrue (stands_at_last self.new.faults) }
+        ensures no_fault { OnOk result (self.new.faults ≡ self.old.faults) }
+        ensures one_fault { self.new.faults ≤ self.old.faults + 1 }
         ensures next_call { self.new.calls ≡ next_count self.old.calls }
         ensures same_piece { self.new.piece ≡ self.old.piece }
         ensures same_fails { self.new.fails ≡ self.old.fails }
@@ -170,6 +177,8 @@ impl Sink for MemorySink {
         ensures never_falls { self.old.faults ≤ self.new.faults }
         ensures stands_on { IsTrue (stands_at_last self.old.faults) →
             IsTrue (stands_at_last self.new.faults) }
+        ensures no_fault { OnOk result (self.new.faults ≡ self.old.faults) }
+        ensures one_fault { self.new.faults ≤ self.old.faults + 1 }
         ensures next_call { self.new.calls ≡ next_count self.old.calls }
         ensures same_room { self.new.room ≡ self.old.room }
         ensures same_piece { self.new.piece ≡ self.old.piece }

@@ -1,5 +1,5 @@
 //! Sinks of bytes, and writing a whole text to one.
-ghost use Rattle.std.specs.Prelude.{ℕ, ◌<◌, ◌≤◌, Bool, IsTrue, Option, List, [], length, take, IfOk, OnOk, OnErr};
+ghost use Rattle.std.specs.Prelude.{◌≡◌, ℕ, ◌+◌, ◌<◌, ◌≤◌, Bool, IsTrue, Option, List, [], length, take, IfOk, OnOk, OnErr};
 ghost use Rattle.sc_outside.specs.Faults.{Rose};
 ghost use Rattle.sc_outside.specs.Told.{Took, TookPart};
 
@@ -26,10 +26,13 @@ pub trait Sink {
         ensures nothing { OnErr result (Took (taken self.old) (taken self.new) []) }
         ensures fault { OnErr result (Rose (faults self.old) (faults self.new) (stands self.new)) }
         ensures never_falls { faults self.old ≤ faults self.new }
-        ensures stands_on { IsTrue (stands self.old) → IsTrue (stands self.new) };
+        ensures stands_on { IsTrue (stands self.old) → IsTrue (stands self.new) }
+        ensures no_fault { OnOk result (faults self.new ≡ faults self.old) }
+        ensures one_fault { faults self.new ≤ faults self.old + 1 };
 }
 
-/// Hands all of `bytes` to the sink. After a failure the sink has taken a prefix of them, not all.
+/// Hands all of `bytes` to the sink. After a failure the sink has taken a prefix of them, not all,
+/// and isn't asked again.
 pub fn write_all<K: Sink>(sink: &mut K, bytes: &[u8]) -> Result<(), Failed>
     ensures all { OnOk result (Took (K.taken sink.old) (K.taken sink.new) bytes.now) }
     ensures part { OnErr result (TookPart (K.taken sink.old) (K.taken sink.new) bytes.now) }
@@ -37,6 +40,8 @@ pub fn write_all<K: Sink>(sink: &mut K, bytes: &[u8]) -> Result<(), Failed>
         (K.stands sink.new)) }
     ensures never_falls { K.faults sink.old ≤ K.faults sink.new }
     ensures stands_on { IsTrue (K.stands sink.old) → IsTrue (K.stands sink.new) }
+    ensures no_fault { OnOk result (K.faults sink.new ≡ K.faults sink.old) }
+    ensures one_fault { K.faults sink.new ≤ K.faults sink.old + 1 }
 {
     let mut written = 0;
     while written < bytes.len() {

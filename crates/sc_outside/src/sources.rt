@@ -1,5 +1,5 @@
 //! Sources of bytes, and reading one to its end.
-ghost use Rattle.std.specs.Prelude.{◌≡◌, ℕ, ◌+◌, ◌^◌, ◌<◌, ◌≤◌, Bool, IsTrue, Option, Some, List, [], length, take, vec_len, IfSome, IfOk, OnOk, OnErr, IsErr};
+ghost use Rattle.std.specs.Prelude.{◌≡◌, ℕ, ◌+◌, ◌^◌, ◌<◌, ◌≤◌, Bool, IsTrue, Option, Some, List, [], length, take, vec_len, IfSome, IfOk, OnOk, OnErr, IsOk, IsErr};
 ghost use Rattle.std.specs.Io.KnownBytes.{Consumes, IsAtEnd};
 ghost use Rattle.sc_outside.specs.Faults.{Rose};
 ghost use Rattle.sc_outside.specs.Told.{Delivered};
@@ -24,6 +24,9 @@ pub trait Source {
     // How many calls there were so far, where the source counts them.
     ghost calls: { Self → ℕ } = { λ _. 0 };
 
+    // How many bytes the calls that went well gave so far, where the source counts them.
+    ghost given: { Self → ℕ } = { λ _. 0 };
+
     /// Fills the front of `room` with the next bytes and answers how many. No byte for room that
     /// isn't empty says that the input has ended.
     fn read(&mut self, room: &mut [u8]) -> Result<usize, Failed>
@@ -34,7 +37,11 @@ pub trait Source {
         ensures fault { OnErr result (Rose (faults self.old) (faults self.new) (stands self.new)) }
         ensures never_falls { faults self.old ≤ faults self.new }
         ensures stands_on { IsTrue (stands self.old) → IsTrue (stands self.new) }
-        ensures one_call { calls self.new ≤ calls self.old + 1 };
+        ensures no_fault { OnOk result (faults self.new ≡ faults self.old) }
+        ensures one_fault { faults self.new ≤ faults self.old + 1 }
+        ensures one_call { calls self.new ≤ calls self.old + 1 }
+        ensures gave { IfOk result (λ k. given self.new ≤ given self.old + k) }
+        ensures gave_nothing { OnErr result (given self.new ≤ given self.old) };
 }
 
 /// Why not all bytes of a source were answered.
@@ -69,7 +76,7 @@ impl From<Failed> for ReadAll {
 }
 
 /// All bytes up to the end of the input, where they are at most `limit`. Makes at most `limit + 1`
-/// calls. Which bytes a source delivers in a call that fails is its own affair, so nothing is said
+/// calls, and asks no more once the input has ended, failed or passed the limit. Which bytes a source delivers in a call that fails is its own affair, so nothing is said
 /// of the bytes left after `ReadFault`.
 pub fn read_all<S: Source>(alloc: Global, source: &mut S, limit: usize) -> Result<Vec<u8>, ReadAll>
     requires { limit < 2 ^ 31 }
@@ -90,6 +97,16 @@ pub fn read_all<S: Source>(alloc: Global, source: &mut S, limit: usize) -> Resul
         Rose (S.faults source.old) (S.faults source.new) (S.stands source.new) }
     ensures never_falls { S.faults source.old ≤ S.faults source.new }
     ensures stands_on { IsTrue (S.stands source.old) → IsTrue (S.stands source.new) }
+    ensures no_fault { IsOk result → S.faults source.new ≡ S.faults source.old }
+    ensures one_fault { S.faults source.new ≤ S.faults source.old + 1 }
+
+    // A fault that comes after more bytes than the limit isn't looked at.
+    ensures fault_within { result ≡ Err ReadAll.ReadFault →
+        S.given source.new ≤ S.given source.old + limit }
+
+    // Each turn brings a byte, but the last.
+    ensures byte_a_turn { IfOk result
+        (λ v. S.calls source.new ≤ S.calls source.old + vec_len v + 1) }
     ensures turns { S.calls source.new ≤ S.calls source.old + limit + 1 }
 {
     let mut chunk = vec![in alloc; 0u8; CHUNK.min(limit + 1)]?;

@@ -1,6 +1,6 @@
 //! Sources and sinks over std's readers and writers.
-ghost use Rattle.std.specs.Prelude.{◌≡◌, ◌<◌, ◌≤◌, true, false, IsTrue, IsSome, None, [], length, OnErr, IfOk, Ok, take, if◌then◌else◌};
-ghost use Rattle.std.specs.Io.KnownBytes.{Consumes, IsAtEnd, Keeps};
+ghost use Rattle.std.specs.Prelude.{◌≡◌, ◌+◌, ◌<◌, ◌≤◌, true, false, IsTrue, IsSome, None, [], length, OnOk, OnErr, IfOk, Ok, take, if◌then◌else◌};
+ghost use Rattle.std.specs.Io.KnownBytes.{Appends, Consumes, IsAtEnd, Keeps};
 ghost use Rattle.sc_outside.specs.Faults.{Rose, CountsFault, stands_at_last};
 ghost use Rattle.sc_outside.specs.Told.{Took};
 
@@ -21,6 +21,7 @@ impl<R: Read> StdSource<R> {
     pub fn new(reader: R) -> StdSource<R>
         ensures bytes { ⟦<StdSource<R> as Source>⟧.left result ≡ R.remaining reader }
         ensures no_fault { ⟦<StdSource<R> as Source>⟧.faults result ≡ 0 }
+        ensures reader { result.reader ≡ reader }
     {
         StdSource { reader, faults: 0 }
     }
@@ -39,6 +40,9 @@ impl<R: Read> Source for StdSource<R> {
             IfOk result (λ k. Consumes (left self.old) (left self.new) (take k room.new)) }
         ensures ended { let left = ⟦<StdSource<R> as Source>⟧.left in
             result ≡ Ok 0 → 0 < length room.old → IsAtEnd (left self.old) }
+        // In the reader's own words.
+        ensures handed { IfOk result (λ k. Consumes (R.remaining self.old.reader)
+            (R.remaining self.new.reader) (take k room.new)) }
         ensures nothing { let left = ⟦<StdSource<R> as Source>⟧.left in
             OnErr result (Keeps (left self.old) (left self.new)) }
         ensures counts { let faults = ⟦<StdSource<R> as Source>⟧.faults in
@@ -50,6 +54,10 @@ impl<R: Read> Source for StdSource<R> {
             faults self.old ≤ faults self.new }
         ensures stands_on { let stands = ⟦<StdSource<R> as Source>⟧.stands in
             IsTrue (stands self.old) → IsTrue (stands self.new) }
+        ensures no_fault { let faults = ⟦<StdSource<R> as Source>⟧.faults in
+            OnOk result (faults self.new ≡ faults self.old) }
+        ensures one_fault { let faults = ⟦<StdSource<R> as Source>⟧.faults in
+            faults self.new ≤ faults self.old + 1 }
     {
         match self.reader.read(room) {
             Ok(count) => Ok(count),
@@ -78,6 +86,7 @@ impl<W: Write> StdSink<W> {
     pub fn new(writer: W) -> StdSink<W>
         ensures untold { ⟦<StdSink<W> as Sink>⟧.taken result ≡ None }
         ensures no_fault { ⟦<StdSink<W> as Sink>⟧.faults result ≡ 0 }
+        ensures writer { result.writer ≡ writer }
     {
         StdSink {
             writer,
@@ -91,6 +100,7 @@ impl<W: Write> StdSink<W> {
         requires { IsSome (W.contents writer) }
         ensures told { ⟦<StdSink<W> as Sink>⟧.taken result ≡ W.contents writer }
         ensures no_fault { ⟦<StdSink<W> as Sink>⟧.faults result ≡ 0 }
+        ensures writer { result.writer ≡ writer }
     {
         StdSink {
             writer,
@@ -114,6 +124,9 @@ impl<W: Write> Sink for StdSink<W> {
             IfOk result (λ k. Took (taken self.old) (taken self.new) (take k bytes.now)) }
         ensures nothing { let taken = ⟦<StdSink<W> as Sink>⟧.taken in
             OnErr result (Took (taken self.old) (taken self.new) []) }
+        // What the writer was handed, in its own words, also where the sink doesn't tell it.
+        ensures handed { IfOk result (λ k. Appends (W.contents self.old.writer)
+            (W.contents self.new.writer) (take k bytes.now)) }
         ensures goes_on_telling { let taken = ⟦<StdSink<W> as Sink>⟧.taken in
             IsSome (taken self.old) → IsSome (taken self.new) }
         ensures counts { let faults = ⟦<StdSink<W> as Sink>⟧.faults in
@@ -125,6 +138,10 @@ impl<W: Write> Sink for StdSink<W> {
             faults self.old ≤ faults self.new }
         ensures stands_on { let stands = ⟦<StdSink<W> as Sink>⟧.stands in
             IsTrue (stands self.old) → IsTrue (stands self.new) }
+        ensures no_fault { let faults = ⟦<StdSink<W> as Sink>⟧.faults in
+            OnOk result (faults self.new ≡ faults self.old) }
+        ensures one_fault { let faults = ⟦<StdSink<W> as Sink>⟧.faults in
+            faults self.new ≤ faults self.old + 1 }
     {
         match self.writer.write(bytes) {
             Ok(count) if count > 0 || bytes.is_empty() => Ok(count),

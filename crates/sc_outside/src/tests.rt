@@ -133,9 +133,15 @@ fn passes_on_what_std_reads_and_writes(rt: HostRuntime) -> Result<(), Fail> {
     let mut source = StdSource::new(TEXT);
     assert_eq!(rt; read_all(rt.alloc(), &mut source, 18)?.as_slice(), TEXT);
 
+    let mut text = Vec::new(rt.alloc());
+    for number in 0..200u8 {
+        text.push(number)?;
+        text.push(b'\n')?;
+    }
     let mut held = Vec::new(rt.alloc());
-    assert!(rt; write_all(&mut StdSink::new(&mut held), TEXT).is_ok());
+    assert!(rt; write_all(&mut StdSink::new(&mut held), text.as_slice()).is_ok());
+    assert_eq!(rt; held.as_slice(), text.as_slice());
     assert!(rt; write_all(&mut StdSink::telling(&mut held), TEXT).is_ok());
-    assert_eq!(rt; held.len(), 36);
+    assert_eq!(rt; held.len(), 418);
     Ok(())
 }

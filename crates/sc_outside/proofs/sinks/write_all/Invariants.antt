@@ -1,13 +1,13 @@
-use Rattle.std.proofs.Common.{◌≤◌, ◌-◌, length, take, IsTrue}
+use Rattle.std.proofs.Common.{◌≡◌, ◌≤◌, ◌-◌, length, take, IsTrue}
 use Rattle.sc_outside.specs.Told.{Took}
 use Rattle.sc_outside.proofs.sinks.write_all.Given as goal
 
--- the front of the bytes was taken, and no fault is forgotten
+-- the front of the bytes was taken, and there was no fault
 abbrev pub invariant-loop-written : goal.invariant-loop-written
 invariant-loop-written g l = record {
   within : l.written ≤ length l.bytes;
   taken : Took (g.K.Sink.taken l.initial.sink) (g.K.Sink.taken l.sink) (take l.written l.bytes);
-  count : g.K.Sink.faults l.initial.sink ≤ g.K.Sink.faults l.sink;
+  no_fault : g.K.Sink.faults l.sink ≡ g.K.Sink.faults l.initial.sink;
   stands : IsTrue (g.K.Sink.stands l.initial.sink) → IsTrue (g.K.Sink.stands l.sink);
 }
 

@@ -1,4 +1,4 @@
-use Rattle.std.proofs.Common.{arith, ◌≡◌, ◌≤◌, ◌+◌, ◌++◌, length, take, drop, vec_len, sym}
+use Rattle.std.proofs.Common.{arith, ◌≡◌, ◌≤◌, ◌+◌, ◌++◌, length, take, drop, vec_len, sym, ◌∙◌}
 use Rattle.sc_outside.proofs.Bytes.{Consumes-next, Delivered-two, front_length, read_length, below_front}
 use Rattle.sc_outside.proofs.sources.read_all.Goals as goal
 
@@ -11,9 +11,10 @@ loop-turn-preserved g c =
       within = omega (arith, grown);
       progress = omega (arith, grown);
       delivered = Consumes-next _ _ _ _ _ _ _ _ c.loop-turn.invariant.delivered c.in_ok-count.ensures.next_bytes fits c.in_ok-extend_from_slice.ensures.items;
-      count = omega (arith, c.in_ok-count.ensures.never_falls);
       stands = λ h. c.in_ok-count.ensures.stands_on (c.loop-turn.invariant.stands h);
+      no_fault = c.in_ok-count.ensures.no_fault ∙ c.loop-turn.invariant.no_fault;
       calls = omega (arith, c.in_ok-count.ensures.one_call);
+      given = omega (arith, grown, c.in_ok-count.ensures.gave);
     }
 
 pub returns-then-count-limit-clause-long : goal.returns-then-count-limit-clause-long
