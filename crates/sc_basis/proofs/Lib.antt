@@ -1,4 +1,4 @@
 pub mod Numbers
-pub mod Products
+pub mod ProductLaws
 pub mod Units
 pub mod SmallBases

@@ -10,7 +10,7 @@ use Rattle.sc_basis.specs.Products.{dot, unit, IsCoprime}
 use Rattle.sc_basis.specs.Bases.{Column, item, unit_basis, columns, entries_at, bulk_cost, fine_cost, bulk_costs, fine_costs}
 use Rattle.sc_basis.specs.Standing.{Gives, Stands, start_numbers}
 use Rattle.sc_basis.proofs.Numbers.{cancel_pos}
-use Rattle.sc_basis.proofs.Products.{unit_same, unit_other, dot-unit}
+use Rattle.sc_basis.proofs.ProductLaws.{unit_same, unit_other, dot-unit}
 
 pub item-units : (r j : ℕ) → j < r → item (unit_basis r) j ≡ None
 item-units r j inside = get_or-replicate r j None None inside
