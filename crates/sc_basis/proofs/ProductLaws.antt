@@ -4,7 +4,7 @@ use Rattle.std.proofs.Common.{arith, refl, sym, ap, ap₂, ◌∙◌, eq-eqb, ne
 use Rattle.std.proofs.lemmas.Int.{ints}
 use Rattle.sc_algebra.specs.Sums.{sum_below}
 use Rattle.sc_algebra.proofs.Sums.{sum-congr, sum-add, sum-sub, sum-mul_left, sum-single}
-use Rattle.sc_algebra.proofs.Ints.{products}
+use Rattle.sc_algebra.proofs.Ints.{products, mul_comm}
 use Rattle.sc_basis.specs.Products.{dot, unit}
 
 pub unit_same : (i : ℕ) → unit i i ≡ pos 1
@@ -12,6 +12,9 @@ unit_same i = rw (eq-eqb i i refl) refl
 
 pub unit_other : (i k : ℕ) → k ≢ i → unit i k ≡ pos 0
 unit_other i k apart = rw (ne_eqb k i apart) refl
+
+pub dot-turned : (r : ℕ) (x y : ℕ → ℤ) → dot r x y ≡ dot r y x
+dot-turned r x y = sum-congr (λ k. x k *ℤ y k) (λ k. y k *ℤ x k) r (λ k l. mul_comm (x k) (y k))
 
 -- the product with a unit is an entry
 pub dot-unit : (r j : ℕ) (x : ℕ → ℤ) → j < r → dot r x (unit j) ≡ x j

@@ -3,4 +3,5 @@
 #![tactic(auto)]
 
 pub mod examples;
+pub mod inverses;
 pub mod pivots;
