@@ -25,15 +25,15 @@ inverse_start r =
       row = λ i. unit i;
       positive = omega (arith, ints);
       rows = λ i l. record { positive = omega (arith, ints); product = λ j m. dot-columns-units r j (unit i) m ∙ sym (one-mul (unit i j)) };
-      spread = λ x v. one-mul (dot r x v) ∙ sum-congr (λ k. x k *ℤ v k) (λ i. dot r (unit i) v *ℤ dot r x (columns (unit_basis r) i)) r (λ k l. term x v k l)
+      spread = λ x v. one-mul (dot r x v) ∙ sum-congr (λ k. x k *ℤ v k) (λ i. dot r (unit i) v *ℤ dot r x (columns (unit_basis r) i)) r (λ k l. term x v k l);
     }
   where
     term : (x v : ℕ → ℤ) (k : ℕ) → k < r → x k *ℤ v k ≡ dot r (unit k) v *ℤ dot r x (columns (unit_basis r) k)
     term x v k l = mul_comm (x k) (v k) ∙ sym (ap₂ (λ (s t : ℤ). s *ℤ t) (dot-turned r (unit k) v ∙ dot-unit r k v l) (dot-columns-units r k x l))
 
-pub inverse_start_row : (r i k : ℕ) → (inverse_start r).row i k ≡ unit i k
+pub inverse_start_row : (r i : ℕ) → (inverse_start r).row i ≡ unit i
 unfolding inverse_start
-inverse_start_row r i k = refl
+inverse_start_row r i = refl
 
 -- ---- after a pivot
 -- row i of the new inverse: row l gets the old scale, from each other row i its product a i with the entering column is taken
@@ -51,7 +51,7 @@ gives_row : (r : ℕ) (column column' : ℕ → ℕ → ℤ) (c : ℕ → ℤ) (
 gives_row r column column' c l i inv inside i_inside new p =
     record {
       positive = mul_pos inv.scale (dot r (inv.row l) c) inv.positive p;
-      product = λ j m. dot-combine r (dot r (inv.row l) c) (inv.scale *ℤ unit i l -ℤ dot r (inv.row i) c) (inv.row i) (inv.row l) (column' j) ∙ product_at j m
+      product = λ j m. dot-combine r (dot r (inv.row l) c) (inv.scale *ℤ unit i l -ℤ dot r (inv.row i) c) (inv.row i) (inv.row l) (column' j) ∙ product_at j m;
     }
   where
     at_here : dot r (inv.row l) c *ℤ dot r (inv.row i) (column' l) +ℤ (inv.scale *ℤ unit i l -ℤ dot r (inv.row i) c) *ℤ dot r (inv.row l) (column' l) ≡ (inv.scale *ℤ dot r (inv.row l) c) *ℤ unit i l
@@ -91,6 +91,7 @@ term_other a q s m f u x z is_zero =
   where
     shorter : (pos 0 -ℤ s) *ℤ m ≡ pos 0 -ℤ s *ℤ m
     shorter = simp products (omega (arith, ints))
+
     expanded : (a *ℤ f +ℤ (pos 0 -ℤ s *ℤ m)) *ℤ x ≡ (a *ℤ (f *ℤ x) -ℤ m *ℤ (s *ℤ x)) +ℤ pos 0
     expanded = ap (λ (t : ℤ). t *ℤ x) (let e : a *ℤ f +ℤ (pos 0 -ℤ s *ℤ m) ≡ a *ℤ f -ℤ s *ℤ m = omega (arith, ints) in e) ∙ simp products (omega (arith, ints))
 
@@ -99,11 +100,11 @@ sum_of_terms : (r l : ℕ) (a m z : ℤ) (f s x : ℕ → ℤ) → l < r → sum
 sum_of_terms r l a m z f s x inside =
     sum-add (λ i. a *ℤ (f i *ℤ x i) -ℤ m *ℤ (s i *ℤ x i)) (λ i. unit i l *ℤ z) r
     ∙ ap₂ (λ (p q : ℤ). p +ℤ q)
-        (sum-sub (λ i. a *ℤ (f i *ℤ x i)) (λ i. m *ℤ (s i *ℤ x i)) r
-          ∙ ap₂ (λ (p q : ℤ). p -ℤ q) (sum-mul_left a (λ i. f i *ℤ x i) r) (sum-mul_left m (λ i. s i *ℤ x i) r))
-        (sum-single (λ i. unit i l *ℤ z) r l inside (λ i h apart. ap (λ (t : ℤ). t *ℤ z) (unit_other i l (λ (e : l ≡ i). apart (sym e))) ∙ zero-mul z)
-          ∙ ap (λ (t : ℤ). t *ℤ z) (unit_same l)
-          ∙ one-mul z)
+    (sum-sub (λ i. a *ℤ (f i *ℤ x i)) (λ i. m *ℤ (s i *ℤ x i)) r
+    ∙ ap₂ (λ (p q : ℤ). p -ℤ q) (sum-mul_left a (λ i. f i *ℤ x i) r) (sum-mul_left m (λ i. s i *ℤ x i) r))
+    (sum-single (λ i. unit i l *ℤ z) r l inside (λ i h apart. ap (λ (t : ℤ). t *ℤ z) (unit_other i l (λ (e : l ≡ i). apart (sym e))) ∙ zero-mul z)
+    ∙ ap (λ (t : ℤ). t *ℤ z) (unit_same l)
+    ∙ one-mul z)
 
 -- what is left of the sum
 left_over : (a m q n z : ℤ) → (a *ℤ (q *ℤ n) -ℤ m *ℤ (q *ℤ z)) +ℤ m *ℤ (q *ℤ z) ≡ (q *ℤ a) *ℤ n
@@ -113,9 +114,9 @@ spread_term : (r : ℕ) (column column' : ℕ → ℕ → ℤ) (c : ℕ → ℤ)
 spread_term r column column' c l inv x v inside new i =
     ap (λ (t : ℤ). t *ℤ dot r x (column' i)) (dot-combine r (dot r (inv.row l) c) (inv.scale *ℤ unit i l -ℤ dot r (inv.row i) c) (inv.row i) (inv.row l) v)
     ∙ elim (cases_eq i l) [
-        | inl e ↦ subst (λ (h : ℕ). (dot r (inv.row l) c *ℤ dot r (inv.row h) v +ℤ (inv.scale *ℤ unit h l -ℤ dot r (inv.row h) c) *ℤ dot r (inv.row l) v) *ℤ dot r x (column' h) ≡ (dot r (inv.row l) c *ℤ (dot r (inv.row h) v *ℤ dot r x (column h)) -ℤ dot r (inv.row l) v *ℤ (dot r (inv.row h) c *ℤ dot r x (column h))) +ℤ unit h l *ℤ (dot r (inv.row l) v *ℤ (inv.scale *ℤ dot r x c))) (sym e) at_here
-        | inr apart ↦ at_other apart
-      ]
+      | inl e ↦ subst (λ (h : ℕ). (dot r (inv.row l) c *ℤ dot r (inv.row h) v +ℤ (inv.scale *ℤ unit h l -ℤ dot r (inv.row h) c) *ℤ dot r (inv.row l) v) *ℤ dot r x (column' h) ≡ (dot r (inv.row l) c *ℤ (dot r (inv.row h) v *ℤ dot r x (column h)) -ℤ dot r (inv.row l) v *ℤ (dot r (inv.row h) c *ℤ dot r x (column h))) +ℤ unit h l *ℤ (dot r (inv.row l) v *ℤ (inv.scale *ℤ dot r x c))) (sym e) at_here
+      | inr apart ↦ at_other apart
+    ]
   where
     at_here : (dot r (inv.row l) c *ℤ dot r (inv.row l) v +ℤ (inv.scale *ℤ unit l l -ℤ dot r (inv.row l) c) *ℤ dot r (inv.row l) v) *ℤ dot r x (column' l) ≡ (dot r (inv.row l) c *ℤ (dot r (inv.row l) v *ℤ dot r x (column l)) -ℤ dot r (inv.row l) v *ℤ (dot r (inv.row l) c *ℤ dot r x (column l))) +ℤ unit l l *ℤ (dot r (inv.row l) v *ℤ (inv.scale *ℤ dot r x c))
     at_here =
@@ -130,10 +131,10 @@ spread_term r column column' c l inv x v inside new i =
 spread_after : (r : ℕ) (column column' : ℕ → ℕ → ℤ) (c : ℕ → ℤ) (l : ℕ) (inv : Inverse r column) → l < r → IsReplaced column column' c l → (x v : ℕ → ℤ) → (inv.scale *ℤ dot r (inv.row l) c) *ℤ dot r x v ≡ sum_below (λ i. dot r (row_after r inv.scale inv.row c l i) v *ℤ dot r x (column' i)) r
 spread_after r column column' c l inv inside new x v =
     sym
-      (sum-congr (λ i. dot r (row_after r inv.scale inv.row c l i) v *ℤ dot r x (column' i)) (λ i. (dot r (inv.row l) c *ℤ (dot r (inv.row i) v *ℤ dot r x (column i)) -ℤ dot r (inv.row l) v *ℤ (dot r (inv.row i) c *ℤ dot r x (column i))) +ℤ unit i l *ℤ (dot r (inv.row l) v *ℤ (inv.scale *ℤ dot r x c))) r (λ i h. spread_term r column column' c l inv x v inside new i)
-        ∙ sum_of_terms r l (dot r (inv.row l) c) (dot r (inv.row l) v) (dot r (inv.row l) v *ℤ (inv.scale *ℤ dot r x c)) (λ i. dot r (inv.row i) v) (λ i. dot r (inv.row i) c) (λ i. dot r x (column i)) inside
-        ∙ ap₂ (λ (p q : ℤ). (dot r (inv.row l) c *ℤ p -ℤ dot r (inv.row l) v *ℤ q) +ℤ dot r (inv.row l) v *ℤ (inv.scale *ℤ dot r x c)) (sym (inv.spread x v)) (sym (inv.spread x c))
-        ∙ left_over (dot r (inv.row l) c) (dot r (inv.row l) v) inv.scale (dot r x v) (dot r x c))
+    (sum-congr (λ i. dot r (row_after r inv.scale inv.row c l i) v *ℤ dot r x (column' i)) (λ i. (dot r (inv.row l) c *ℤ (dot r (inv.row i) v *ℤ dot r x (column i)) -ℤ dot r (inv.row l) v *ℤ (dot r (inv.row i) c *ℤ dot r x (column i))) +ℤ unit i l *ℤ (dot r (inv.row l) v *ℤ (inv.scale *ℤ dot r x c))) r (λ i h. spread_term r column column' c l inv x v inside new i)
+    ∙ sum_of_terms r l (dot r (inv.row l) c) (dot r (inv.row l) v) (dot r (inv.row l) v *ℤ (inv.scale *ℤ dot r x c)) (λ i. dot r (inv.row i) v) (λ i. dot r (inv.row i) c) (λ i. dot r x (column i)) inside
+    ∙ ap₂ (λ (p q : ℤ). (dot r (inv.row l) c *ℤ p -ℤ dot r (inv.row l) v *ℤ q) +ℤ dot r (inv.row l) v *ℤ (inv.scale *ℤ dot r x c)) (sym (inv.spread x v)) (sym (inv.spread x c))
+    ∙ left_over (dot r (inv.row l) c) (dot r (inv.row l) v) inv.scale (dot r x v) (dot r x c))
 
 pub inverse_after : (r : ℕ) (column column' : ℕ → ℕ → ℤ) (c : ℕ → ℤ) (l : ℕ) (inv : Inverse r column) → l < r → IsReplaced column column' c l → pos 0 <ℤ dot r (inv.row l) c → Inverse r column'
 inverse_after r column column' c l inv inside new p =
@@ -142,7 +143,7 @@ inverse_after r column column' c l inv inside new p =
       row = row_after r inv.scale inv.row c l;
       positive = mul_pos inv.scale (dot r (inv.row l) c) inv.positive p;
       rows = λ i h. gives_row r column column' c l i inv inside h new p;
-      spread = spread_after r column column' c l inv inside new
+      spread = spread_after r column column' c l inv inside new;
     }
 
 pub inverse_after_row : (r : ℕ) (column column' : ℕ → ℕ → ℤ) (c : ℕ → ℤ) (l : ℕ) (inv : Inverse r column) (inside : l < r) (new : IsReplaced column column' c l) (p : pos 0 <ℤ dot r (inv.row l) c) (i : ℕ) → (inverse_after r column column' c l inv inside new p).row i ≡ row_after r inv.scale inv.row c l i
@@ -179,11 +180,11 @@ line_determined r b column inv i w d inside g (suc k) l = entry_determined r col
 in_proportion : (r : ℕ) (column : ℕ → ℕ → ℤ) (inv : Inverse r column) (x v w : ℕ → ℤ) (d e : ℤ) → Gives r column x v d → Gives r column x w e → (k : ℕ) → k < r → e *ℤ v k ≡ d *ℤ w k
 in_proportion r column inv x v w d e first second k l =
     cancel_pos inv.scale (e *ℤ v k) (d *ℤ w k) inv.positive
-      (mul_left_comm inv.scale e (v k)
-        ∙ ap (λ (t : ℤ). e *ℤ t) (entry v d first)
-        ∙ mul_left_comm e d (sum_below (λ i. dot r (inv.row i) (unit k) *ℤ x i) r)
-        ∙ sym (ap (λ (t : ℤ). d *ℤ t) (entry w e second))
-        ∙ mul_left_comm d inv.scale (w k))
+    (mul_left_comm inv.scale e (v k)
+    ∙ ap (λ (t : ℤ). e *ℤ t) (entry v d first)
+    ∙ mul_left_comm e d (sum_below (λ i. dot r (inv.row i) (unit k) *ℤ x i) r)
+    ∙ sym (ap (λ (t : ℤ). d *ℤ t) (entry w e second))
+    ∙ mul_left_comm d inv.scale (w k))
   where
     entry : (u : ℕ → ℤ) (f : ℤ) → Gives r column x u f → inv.scale *ℤ u k ≡ f *ℤ sum_below (λ i. dot r (inv.row i) (unit k) *ℤ x i) r
     entry u f g = ap (λ (t : ℤ). inv.scale *ℤ t) (sym (dot-unit r k u l)) ∙ determined r column inv x u f g (unit k)

@@ -1,8 +1,11 @@
-pub mod Numbers
-pub mod ProductLaws
-pub mod Units
-pub mod Replacing
-pub mod Pivoting
-pub mod Uniqueness
 pub mod InverseLaws
+pub mod JournalLaws
+pub mod LexOrder
+pub mod Numbers
+pub mod Pivoting
+pub mod ProductLaws
+pub mod Replacing
+pub mod SameNumbers
 pub mod SmallBases
+pub mod Uniqueness
+pub mod Units

@@ -24,8 +24,8 @@ gives_reduced r column x v d w e h g =
     record {
       positive = pos_of_mul h.factor d h.positive (subst (λ (t : ℤ). pos 0 <ℤ t) (sym h.scale) g.positive);
       product = λ j l.
-        cancel_pos h.factor (dot r v (column j)) (d *ℤ x j) h.positive
-          (dot-reduced r v d w e (column j) h ∙ g.product j l ∙ scaled h.factor d (x j) e h.scale)
+          cancel_pos h.factor (dot r v (column j)) (d *ℤ x j) h.positive
+          (dot-reduced r v d w e (column j) h ∙ g.product j l ∙ scaled h.factor d (x j) e h.scale);
     }
 
 closed : (a d x p : ℤ) → a *ℤ p +ℤ (d *ℤ x -ℤ p) *ℤ a ≡ (a *ℤ d) *ℤ x
@@ -39,7 +39,7 @@ pub gives_combined : (r : ℕ) (column column' : ℕ → ℕ → ℤ) (c : ℕ �
 gives_combined r column column' c l x x' v d w e new same g row p =
     record {
       positive = mul_pos (dot r w c) d p g.positive;
-      product = λ j inside. dot-combine r (dot r w c) (d *ℤ x' l -ℤ dot r v c) v w (column' j) ∙ at j inside
+      product = λ j inside. dot-combine r (dot r w c) (d *ℤ x' l -ℤ dot r v c) v w (column' j) ∙ at j inside;
     }
   where
     at_here : dot r w c *ℤ dot r v (column' l) +ℤ (d *ℤ x' l -ℤ dot r v c) *ℤ dot r w (column' l) ≡ (dot r w c *ℤ d) *ℤ x' l
@@ -88,7 +88,7 @@ gives_same : (r : ℕ) (column : ℕ → ℕ → ℤ) (x v w : ℕ → ℤ) (d e
 gives_same r column x v w d e entries scale g =
     record {
       positive = subst (λ (t : ℤ). pos 0 <ℤ t) scale g.positive;
-      product = λ j l. dot-congr r w v (column j) (column j) (λ k m. sym (entries k m)) (λ k m. refl) ∙ g.product j l ∙ ap (λ (t : ℤ). t *ℤ x j) scale
+      product = λ j l. dot-congr r w v (column j) (column j) (λ k m. sym (entries k m)) (λ k m. refl) ∙ g.product j l ∙ ap (λ (t : ℤ). t *ℤ x j) scale;
     }
 
 taken_away : (a v d s w : ℤ) → a *ℤ v +ℤ (d *ℤ pos 0 -ℤ s) *ℤ w ≡ a *ℤ v -ℤ s *ℤ w
@@ -98,9 +98,9 @@ taken_away a v d s w = ap (λ (t : ℤ). a *ℤ v +ℤ (t -ℤ s) *ℤ w) (mul-z
 gives_other : (r : ℕ) (column column' : ℕ → ℕ → ℤ) (c : ℕ → ℤ) (l i : ℕ) (v : ℕ → ℤ) (d : ℤ) (w : ℕ → ℤ) (e : ℤ) → i ≢ l → IsReplaced column column' c l → Gives r column (unit i) v d → Gives r column (unit l) w e → pos 0 <ℤ dot r w c → Gives r column' (unit i) (λ k. dot r w c *ℤ v k -ℤ dot r v c *ℤ w k) (dot r w c *ℤ d)
 gives_other r column column' c l i v d w e apart new row left p =
     gives_same r column' (unit i) (λ k. dot r w c *ℤ v k +ℤ (d *ℤ unit i l -ℤ dot r v c) *ℤ w k) (λ k. dot r w c *ℤ v k -ℤ dot r v c *ℤ w k) (dot r w c *ℤ d) (dot r w c *ℤ d)
-      (λ k m. ap (λ (t : ℤ). dot r w c *ℤ v k +ℤ (d *ℤ t -ℤ dot r v c) *ℤ w k) (unit_other i l (λ (h : l ≡ i). apart (sym h))) ∙ taken_away (dot r w c) (v k) d (dot r v c) (w k))
-      refl
-      (gives_combined r column column' c l (unit i) (unit i) v d w e new (λ j h. refl) row left p)
+    (λ k m. ap (λ (t : ℤ). dot r w c *ℤ v k +ℤ (d *ℤ t -ℤ dot r v c) *ℤ w k) (unit_other i l (λ (h : l ≡ i). apart (sym h))) ∙ taken_away (dot r w c) (v k) d (dot r v c) (w k))
+    refl
+    (gives_combined r column column' c l (unit i) (unit i) v d w e new (λ j h. refl) row left p)
 
 -- ---- over a basis
 reduced_same : (r : ℕ) (v : ℕ → ℤ) (d : ℤ) (w w' : ℕ → ℤ) (e e' : ℤ) → ((k : ℕ) → k < r → w k ≡ w' k) → e ≡ e' → IsReduced r v d w e → IsReduced r v d w' e'
@@ -123,28 +123,28 @@ rows_after r basis row den row' den' a c l size inside rows products_are positiv
     at_left : Gives r (columns (after_pivot basis (l, c))) (unit l) (row' l) (den' l)
     at_left =
         gives_reduced r (columns (after_pivot basis (l, c))) (unit l) (row' l) (den' l) (row l) (dot r (row l) (entry_of c))
-          (reduced_same r (row' l) (den' l) (row l) (row l) (a l) (dot r (row l) (entry_of c)) (λ k m. refl) (products_are l inside) new.left)
-          (gives_left r (columns basis) (columns (after_pivot basis (l, c))) (entry_of c) l (row l) (den l) put (rows l inside) above)
+        (reduced_same r (row' l) (den' l) (row l) (row l) (a l) (dot r (row l) (entry_of c)) (λ k m. refl) (products_are l inside) new.left)
+        (gives_left r (columns basis) (columns (after_pivot basis (l, c))) (entry_of c) l (row l) (den l) put (rows l inside) above)
 
     at_other : i ≢ l → Gives r (columns (after_pivot basis (l, c))) (unit i) (row' i) (den' i)
     at_other apart =
         gives_reduced r (columns (after_pivot basis (l, c))) (unit i) (row' i) (den' i) (λ k. dot r (row l) (entry_of c) *ℤ row i k -ℤ dot r (row i) (entry_of c) *ℤ row l k) (dot r (row l) (entry_of c) *ℤ den i)
-          (reduced_same r (row' i) (den' i) (λ k. a l *ℤ row i k -ℤ a i *ℤ row l k) (λ k. dot r (row l) (entry_of c) *ℤ row i k -ℤ dot r (row i) (entry_of c) *ℤ row l k) (a l *ℤ den i) (dot r (row l) (entry_of c) *ℤ den i)
-            (λ k m. ap₂ (λ (s t : ℤ). s *ℤ row i k -ℤ t *ℤ row l k) (products_are l inside) (products_are i i_inside))
-            (ap (λ (t : ℤ). t *ℤ den i) (products_are l inside))
-            (new.others i i_inside apart))
-          (gives_other r (columns basis) (columns (after_pivot basis (l, c))) (entry_of c) l i (row i) (den i) (row l) (den l) apart put (rows i i_inside) (rows l inside) above)
+        (reduced_same r (row' i) (den' i) (λ k. a l *ℤ row i k -ℤ a i *ℤ row l k) (λ k. dot r (row l) (entry_of c) *ℤ row i k -ℤ dot r (row i) (entry_of c) *ℤ row l k) (a l *ℤ den i) (dot r (row l) (entry_of c) *ℤ den i)
+        (λ k m. ap₂ (λ (s t : ℤ). s *ℤ row i k -ℤ t *ℤ row l k) (products_are l inside) (products_are i i_inside))
+        (ap (λ (t : ℤ). t *ℤ den i) (products_are l inside))
+        (new.others i i_inside apart))
+        (gives_other r (columns basis) (columns (after_pivot basis (l, c))) (entry_of c) l i (row i) (den i) (row l) (den l) apart put (rows i i_inside) (rows l inside) above)
 
 pub prices_after : (r : ℕ) (basis : Basis) (cost : Option Column → ℤ) (v v' w : ℕ → ℤ) (d d' e : ℤ) (c : Column) (l : ℕ) → length basis ≡ r → l < r → Gives r (columns basis) (λ j. cost (item basis j)) v d → Gives r (columns basis) (unit l) w e → pos 0 <ℤ dot r w (entry_of c) → PricesPivoted r v d v' d' (gap r v d (cost (Some c)) c) w (dot r w (entry_of c)) → Gives r (columns (after_pivot basis (l, c))) (λ j. cost (item (after_pivot basis (l, c)) j)) v' d'
 prices_after r basis cost v v' w d d' e c l size inside prices row positive new =
     gives_reduced r (columns (after_pivot basis (l, c))) (λ j. cost (item (after_pivot basis (l, c)) j)) v' d'
-      (λ k. dot r w (entry_of c) *ℤ v k +ℤ (d *ℤ cost (item (after_pivot basis (l, c)) l) -ℤ dot r v (entry_of c)) *ℤ w k) (dot r w (entry_of c) *ℤ d)
-      (reduced_same r v' d' (λ k. dot r w (entry_of c) *ℤ v k +ℤ gap r v d (cost (Some c)) c *ℤ w k) (λ k. dot r w (entry_of c) *ℤ v k +ℤ (d *ℤ cost (item (after_pivot basis (l, c)) l) -ℤ dot r v (entry_of c)) *ℤ w k) (dot r w (entry_of c) *ℤ d) (dot r w (entry_of c) *ℤ d)
-        (λ k m. ap (λ (o : Option Column). dot r w (entry_of c) *ℤ v k +ℤ (d *ℤ cost o -ℤ dot r v (entry_of c)) *ℤ w k) (sym (item-here basis l c l_inside)))
-        refl
-        new)
-      (gives_combined r (columns basis) (columns (after_pivot basis (l, c))) (entry_of c) l (λ j. cost (item basis j)) (λ j. cost (item (after_pivot basis (l, c)) j)) v d w e
-        (replaced basis l c l_inside) (λ j apart. ap cost (item-other basis l j c apart)) prices row positive)
+    (λ k. dot r w (entry_of c) *ℤ v k +ℤ (d *ℤ cost (item (after_pivot basis (l, c)) l) -ℤ dot r v (entry_of c)) *ℤ w k) (dot r w (entry_of c) *ℤ d)
+    (reduced_same r v' d' (λ k. dot r w (entry_of c) *ℤ v k +ℤ gap r v d (cost (Some c)) c *ℤ w k) (λ k. dot r w (entry_of c) *ℤ v k +ℤ (d *ℤ cost (item (after_pivot basis (l, c)) l) -ℤ dot r v (entry_of c)) *ℤ w k) (dot r w (entry_of c) *ℤ d) (dot r w (entry_of c) *ℤ d)
+    (λ k m. ap (λ (o : Option Column). dot r w (entry_of c) *ℤ v k +ℤ (d *ℤ cost o -ℤ dot r v (entry_of c)) *ℤ w k) (sym (item-here basis l c l_inside)))
+    refl
+    new)
+    (gives_combined r (columns basis) (columns (after_pivot basis (l, c))) (entry_of c) l (λ j. cost (item basis j)) (λ j. cost (item (after_pivot basis (l, c)) j)) v d w e
+    (replaced basis l c l_inside) (λ j apart. ap cost (item-other basis l j c apart)) prices row positive)
   where
     l_inside : l < length basis
     l_inside = subst (λ (n : ℕ). l < n) (sym size) inside
@@ -154,12 +154,12 @@ stands_after r basis t t' c l size inside old positive new =
     record {
       rows = rows_after r basis t.row t.denominator t'.row t'.denominator (along r t c) c l size inside old.rows (λ i m. refl) positive new.rows;
       rows_coprime = λ i i_inside.
-        elim (cases_eq i l) [
-          | inl e ↦ subst (λ (j : ℕ). IsCoprime r (t'.row j) (t'.denominator j)) (sym e) new.rows.left.coprime
-          | inr apart ↦ (new.rows.others i i_inside apart).coprime
-        ];
+          elim (cases_eq i l) [
+            | inl e ↦ subst (λ (j : ℕ). IsCoprime r (t'.row j) (t'.denominator j)) (sym e) new.rows.left.coprime
+            | inr apart ↦ (new.rows.others i i_inside apart).coprime
+          ];
       bulk = prices_after r basis bulk_cost t.bulk t'.bulk (t.row l) t.bulk_scale t'.bulk_scale (t.denominator l) c l size inside old.bulk (old.rows l inside) positive new.bulk;
       bulk_coprime = new.bulk.coprime;
       fine = prices_after r basis fine_cost t.fine t'.fine (t.row l) t.fine_scale t'.fine_scale (t.denominator l) c l size inside old.fine (old.rows l inside) positive new.fine;
-      fine_coprime = new.fine.coprime
+      fine_coprime = new.fine.coprime;
     }

@@ -20,7 +20,7 @@ pub replaced : (basis : Basis) (l : ℕ) (c : Column) → l < length basis → I
 replaced basis l c inside =
     record {
       here = ap (λ (o : Option Column). entries_at l o) (item-here basis l c inside);
-      others = λ j apart. ap (λ (o : Option Column). entries_at j o) (item-other basis l j c apart)
+      others = λ j apart. ap (λ (o : Option Column). entries_at j o) (item-other basis l j c apart);
     }
 
 pub length-after : (basis : Basis) (l : ℕ) (c : Column) → length (after_pivot basis (l, c)) ≡ length basis

@@ -40,7 +40,7 @@ joined r v w d e m =
       first = m.first;
       second = λ k l. more m.s m.t (m.part k) (w k) (v k) (m.first k l) (m.second k l);
       first_scale = m.first_scale;
-      second_scale = more m.s m.t m.scale e d m.first_scale m.second_scale
+      second_scale = more m.s m.t m.scale e d m.first_scale m.second_scale;
     }
 
 lessened : (a c : ℕ) (v w : ℤ) → pos (a + c) *ℤ v ≡ pos a *ℤ w → pos c *ℤ v ≡ pos a *ℤ (w -ℤ v)
@@ -64,15 +64,15 @@ equal_scales r v w a b q same e =
       first = λ k l. sym (one-mul (v k));
       second = λ k l. sym (one-mul (v k) ∙ cancel b (v k) (w k) q (same k l ∙ ap (λ (x : ℕ). pos x *ℤ w k) e));
       first_scale = sym (one-mul (pos a));
-      second_scale = sym (one-mul (pos a) ∙ ap pos e)
+      second_scale = sym (one-mul (pos a) ∙ ap pos e);
     }
 
 second_greater : (n r : ℕ) → Divided n r → (v w : ℕ → ℤ) (a b c : ℕ) → a + b ≤ suc n → 0 < a → b ≡ a + c → 0 < c → ((k : ℕ) → k < r → pos b *ℤ v k ≡ pos a *ℤ w k) → AreMultiplesOfOne r v w (pos a) (pos b)
 second_greater n r before v w a b c fuel p e c_positive same =
     joined r v w (pos a) (pos b)
-      (subst (λ (z : ℤ). AreMultiplesOfOne r v (λ k. w k -ℤ v k) (pos a) z) (let f : pos c ≡ pos b -ℤ pos a = omega (arith, ints) in f)
-        (before v (λ k. w k -ℤ v k) a c (omega arith) p c_positive
-          (λ k l. lessened a c (v k) (w k) (ap (λ (x : ℕ). pos x *ℤ v k) (sym e) ∙ same k l))))
+    (subst (λ (z : ℤ). AreMultiplesOfOne r v (λ k. w k -ℤ v k) (pos a) z) (let f : pos c ≡ pos b -ℤ pos a = omega (arith, ints) in f)
+    (before v (λ k. w k -ℤ v k) a c (omega arith) p c_positive
+    (λ k l. lessened a c (v k) (w k) (ap (λ (x : ℕ). pos x *ℤ v k) (sym e) ∙ same k l))))
 
 multiples : (n r : ℕ) → Divided n r
 multiples zero r v w a b fuel p q same = absurd (omega arith)
@@ -80,9 +80,9 @@ multiples (suc n) r v w a b fuel p q same =
     elim (cases_lt a b) [
       | inl less ↦ second_greater n r (multiples n r) v w a b (b - a) fuel p (omega arith) (omega arith) same
       | inr not_less ↦ elim (cases_lt b a) [
-          | inl greater ↦ swapped r w v (pos b) (pos a) (second_greater n r (multiples n r) w v b a (a - b) (omega arith) q (omega arith) (omega arith) (λ k l. sym (same k l)))
-          | inr not_greater ↦ equal_scales r v w a b q same (omega arith)
-        ]
+        | inl greater ↦ swapped r w v (pos b) (pos a) (second_greater n r (multiples n r) w v b a (a - b) (omega arith) q (omega arith) (omega arith) (λ k l. sym (same k l)))
+        | inr not_greater ↦ equal_scales r v w a b q same (omega arith)
+      ]
     ]
 
 divides_multiple : (s : ℕ) (x y : ℤ) → y ≡ pos s *ℤ x → s ∣ unsigned_abs y
@@ -97,9 +97,10 @@ both_one : (r : ℕ) (v w : ℕ → ℤ) (d e : ℤ) → IsCoprime r v d → IsC
 both_one r v w d e first second m =
     let s_is : m.s ≡ 1 = one_factor r v d m.s m.part m.scale first m.first_scale m.first in
     let t_is : m.t ≡ 1 = one_factor r w e m.t m.part m.scale second m.second_scale m.second in
-    let same : m.s ≡ m.t = s_is ∙ sym t_is in
-    (m.first_scale ∙ ap (λ (n : ℕ). pos n *ℤ m.scale) same ∙ sym m.second_scale,
-      λ k l. m.first k l ∙ ap (λ (n : ℕ). pos n *ℤ m.part k) same ∙ sym (m.second k l))
+    let same : m.s ≡ m.t = s_is ∙ sym t_is in (
+      m.first_scale ∙ ap (λ (n : ℕ). pos n *ℤ m.scale) same ∙ sym m.second_scale,
+      λ k l. m.first k l ∙ ap (λ (n : ℕ). pos n *ℤ m.part k) same ∙ sym (m.second k l),
+    )
 
 -- lists in proportion without a common divisor are the same
 pub same_numbers : (r : ℕ) (v w : ℕ → ℤ) (d e : ℤ) → pos 0 <ℤ d → pos 0 <ℤ e → ((k : ℕ) → k < r → e *ℤ v k ≡ d *ℤ w k) → IsCoprime r v d → IsCoprime r w e → (d ≡ e) × ((k : ℕ) → k < r → v k ≡ w k)

@@ -35,5 +35,5 @@ units r =
       bulk = record { positive = units_positive; product = λ j m. dot-columns-units r j (λ k. negsuc 0) m ∙ ap (λ o. pos 1 *ℤ bulk_cost o) (sym (item-units r j m)) };
       bulk_coprime = coprime_to_one r (λ k. negsuc 0);
       fine = record { positive = units_positive; product = λ j m. dot-columns-units r j (λ k. pos 0) m ∙ ap (λ o. pos 1 *ℤ fine_cost o) (sym (item-units r j m)) };
-      fine_coprime = coprime_to_one r (λ k. pos 0)
+      fine_coprime = coprime_to_one r (λ k. pos 0);
     }

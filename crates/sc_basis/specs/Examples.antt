@@ -23,8 +23,15 @@ square_numbers =
       bulk = at (negsuc 0 ∷ negsuc 0 ∷ pos 0 ∷ []);
       bulk_scale = pos 1;
       fine = at (pos 0 ∷ pos 0 ∷ pos 1 ∷ []);
-      fine_scale = pos 1
+      fine_scale = pos 1;
     }
+
+-- the same with the fine prices and their scale doubled, and with the scale alone doubled
+abbrev pub doubled_numbers : BasisNumbers
+doubled_numbers = record square_numbers { fine = at (pos 0 ∷ pos 0 ∷ pos 2 ∷ []); fine_scale = pos 2 }
+
+abbrev pub wrong_scale_numbers : BasisNumbers
+wrong_scale_numbers = record square_numbers { fine_scale = pos 2 }
 
 -- two opposite words: a row of the pair, two of the words, and the polygon that passes both words' starts
 abbrev pub two_words : ℕ → ℤ
@@ -35,6 +42,10 @@ two_starts = (1, pos 1) ∷ (2, pos 1) ∷ []
 
 abbrev pub two_starts_enter : Journal
 two_starts_enter = (2, two_starts) ∷ []
+
+-- the same column at the row of the first word
+abbrev pub two_starts_too_early : Journal
+two_starts_too_early = (1, two_starts) ∷ []
 
 abbrev pub two_starts_rows : ℕ → ℕ → ℤ
 two_starts_rows zero = unit 0
@@ -49,5 +60,5 @@ two_starts_numbers =
       bulk = at (negsuc 0 ∷ negsuc 0 ∷ pos 1 ∷ []);
       bulk_scale = pos 1;
       fine = at (pos 0 ∷ pos 0 ∷ pos 1 ∷ []);
-      fine_scale = pos 1
+      fine_scale = pos 1;
     }

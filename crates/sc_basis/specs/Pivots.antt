@@ -20,7 +20,7 @@ pub record IsLeaving (r : ℕ) (b : ℕ → ℤ) (t : BasisNumbers) (c : Column)
   pub inside : l < r
   pub positive : pos 0 <ℤ along r t c l
   pub least : (i : ℕ) → i < r → i ≢ l → pos 0 <ℤ along r t c i →
-    LexLess (suc r) (λ k. along r t c i *ℤ line r b (t.row l) k) (λ k. along r t c l *ℤ line r b (t.row i) k)
+      LexLess (suc r) (λ k. along r t c i *ℤ line r b (t.row l) k) (λ k. along r t c l *ℤ line r b (t.row i) k)
 
 -- the row that leaves and the column that enters
 abbrev pub Pivot : Type 0

@@ -36,5 +36,14 @@ start_numbers =
       bulk = λ k. negsuc 0;
       bulk_scale = pos 1;
       fine = λ k. pos 0;
-      fine_scale = pos 1
+      fine_scale = pos 1;
     }
+
+-- the same rows, denominators, prices and scales
+pub record AreSameNumbers (r : ℕ) (t t' : BasisNumbers) : Type 0 where
+  pub rows : (i k : ℕ) → i < r → k < r → t.row i k ≡ t'.row i k
+  pub denominators : (i : ℕ) → i < r → t.denominator i ≡ t'.denominator i
+  pub bulk : (k : ℕ) → k < r → t.bulk k ≡ t'.bulk k
+  pub bulk_scale : t.bulk_scale ≡ t'.bulk_scale
+  pub fine : (k : ℕ) → k < r → t.fine k ≡ t'.fine k
+  pub fine_scale : t.fine_scale ≡ t'.fine_scale

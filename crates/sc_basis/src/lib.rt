@@ -4,4 +4,5 @@
 
 pub mod examples;
 pub mod inverses;
+pub mod journals;
 pub mod pivots;
