@@ -6,6 +6,10 @@ pub mod Pivoting
 pub mod ProductLaws
 pub mod Replacing
 pub mod SameNumbers
+pub mod Products
+pub mod RuleLaws
+pub mod CommonDivisors
+pub mod EntryLaws
+pub mod Units
 pub mod SmallBases
 pub mod Uniqueness
-pub mod Units

@@ -3,6 +3,9 @@ pub mod Bases
 pub mod Standing
 pub mod Lines
 pub mod Pivots
+pub mod Rules
+pub mod Divisors
+pub mod Entries
 pub mod Journals
 pub mod Values
 pub mod Evidence

@@ -2,7 +2,10 @@
 //! per subject, and laws. Each public function is a law; there is no program code.
 #![tactic(auto)]
 
+pub mod divisors;
+pub mod entries;
 pub mod examples;
 pub mod inverses;
 pub mod journals;
 pub mod pivots;
+pub mod rules;

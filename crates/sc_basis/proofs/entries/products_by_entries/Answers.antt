@@ -1,0 +1,8 @@
+use Rattle.std.specs.Prelude.{◌≡◌, ℕ, ◌<◌, length, ℤ}
+use Rattle.sc_basis.specs.Bases.{Column, entry_of, IsAscending}
+use Rattle.sc_basis.specs.Entries.{index_at, number_at}
+use Rattle.sc_basis.proofs.EntryLaws.{entry_here, product_through, product_whole}
+use Rattle.sc_basis.proofs.entries.products_by_entries.Goals as goal
+
+pub returns : goal.returns
+returns c = record { here = λ r d m h inside. entry_here r 0 d m h inside; through = product_through; whole = product_whole }
