@@ -13,3 +13,6 @@ pub mod EntryLaws
 pub mod Units
 pub mod SmallBases
 pub mod Uniqueness
+pub mod RowOrder
+pub mod Determined
+pub mod BoundedColumns

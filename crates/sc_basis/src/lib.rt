@@ -7,5 +7,6 @@ pub mod entries;
 pub mod examples;
 pub mod inverses;
 pub mod journals;
+pub mod leaving;
 pub mod pivots;
 pub mod rules;
