@@ -13,7 +13,7 @@ use Rattle.sc_basis.specs.Pivots.{along, Improves}
 use Rattle.sc_basis.specs.Journals.{Inverse, IsReached}
 use Rattle.sc_basis.proofs.Numbers.{mul_pos, le_of_mul, mul_le}
 use Rattle.sc_basis.proofs.LexOrder.{cases_positive}
-use Rattle.sc_basis.proofs.Determined.{given_by_inverse, row_by_inverse}
+use Rattle.sc_basis.proofs.InverseLaws.{determined, row_determined}
 
 -- some of the numbers below n is positive, or none is
 pub some_positive : (f : ℕ → ℤ) (n : ℕ) → ((i : ℕ) × (i < n) × (pos 0 <ℤ f i)) ⊎ ((i : ℕ) → i < n → f i ≤ℤ pos 0)
@@ -57,7 +57,7 @@ module _ (r : ℕ) (b : ℕ → ℤ) (basis : Basis) (t : BasisNumbers) (c : Col
   share_sign i inside h =
       le_of_mul (t.denominator i) (share i) (pos 0) (stands.rows i inside).positive
         (subst (λ (z : ℤ). z ≤ℤ (t.denominator i *ℤ pos 0))
-          (row_by_inverse r (columns basis) reached.inverse i (t.row i) (t.denominator i) inside (stands.rows i inside) (entry_of c))
+          (row_determined r (columns basis) reached.inverse i (t.row i) (t.denominator i) inside (stands.rows i inside) (entry_of c))
           (subst (λ (z : ℤ). (reached.inverse.scale *ℤ along r t c i) ≤ℤ z) (mul-zero reached.inverse.scale ∙ sym (mul-zero (t.denominator i)))
             (mul_le reached.inverse.scale (along r t c i) (pos 0) reached.inverse.positive h)))
 
@@ -99,7 +99,7 @@ module _ (r : ℕ) (b : ℕ → ℤ) (basis : Basis) (t : BasisNumbers) (c : Col
           let inv = reached.inverse in
           let total : sum_below (λ i. share i *ℤ bulk_costs basis i) r ≤ℤ pos 0 =
                 sign_of t.bulk_scale _ stands.bulk.positive
-                  (subst (λ (z : ℤ). z ≤ℤ pos 0) (given_by_inverse r (columns basis) inv (bulk_costs basis) t.bulk t.bulk_scale stands.bulk (entry_of c))
+                  (subst (λ (z : ℤ). z ≤ℤ pos 0) (determined r (columns basis) inv (bulk_costs basis) t.bulk t.bulk_scale stands.bulk (entry_of c))
                     (scaled_sign inv.scale _ inv.positive cheap)) in
           let terms : (i : ℕ) → i < r → share i *ℤ bulk_costs basis i ≡ pos 0 =
                 zero_terms (λ i. share i *ℤ bulk_costs basis i) r (λ i l. cost_term (item basis i) (share i) (share_sign i l (none i l))) total in

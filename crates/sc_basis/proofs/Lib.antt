@@ -14,5 +14,6 @@ pub mod Units
 pub mod SmallBases
 pub mod Uniqueness
 pub mod RowOrder
-pub mod Determined
 pub mod BoundedColumns
+pub mod RiseValues
+pub mod RisingJournals

@@ -10,3 +10,4 @@ pub mod journals;
 pub mod leaving;
 pub mod pivots;
 pub mod rules;
+pub mod rises;
