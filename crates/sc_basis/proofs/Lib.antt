@@ -17,3 +17,4 @@ pub mod RowOrder
 pub mod BoundedColumns
 pub mod RiseValues
 pub mod RisingJournals
+pub mod ValueLaws

@@ -11,3 +11,4 @@ pub mod leaving;
 pub mod pivots;
 pub mod rules;
 pub mod rises;
+pub mod values;
