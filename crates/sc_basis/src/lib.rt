@@ -9,6 +9,6 @@ pub mod inverses;
 pub mod journals;
 pub mod leaving;
 pub mod pivots;
-pub mod rules;
 pub mod rises;
+pub mod rules;
 pub mod values;
