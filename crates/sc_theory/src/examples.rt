@@ -60,12 +60,13 @@ pub fn annulus_list()
 {}
 
 /// The columns of the walk 0 3 2 1 of the commutator, in the rows of its two pairs and of its word, and of the walk 0 1 of
-/// the two opposite words, in the rows of their pair and of the words.
+/// the two opposite words, in the rows of their pair and of the words; with the right sides, which are the words' weights.
 pub fn columns_of_walks()
     ensures rows { rows commutator ≡ 3 }
     ensures commutator { map (column commutator (0 ∷ 3 ∷ 2 ∷ 1 ∷ [])) (0 ∷ 1 ∷ 2 ∷ []) ≡ pos 0 ∷ pos 0 ∷ pos 1 ∷ [] }
     ensures opposite { map (column opposite_words (0 ∷ 1 ∷ [])) (0 ∷ 1 ∷ 2 ∷ []) ≡ pos 0 ∷ pos 1 ∷ pos 1 ∷ [] }
     ensures right_side { map (right_side opposite_words) (0 ∷ 1 ∷ 2 ∷ []) ≡ pos 0 ∷ pos 1 ∷ pos 1 ∷ [] }
+    ensures uneven_right_side { map (right_side uneven_words) (0 ∷ 1 ∷ 2 ∷ 3 ∷ 4 ∷ 5 ∷ []) ≡ pos 0 ∷ pos 0 ∷ pos 2 ∷ pos 2 ∷ pos 0 ∷ pos 0 ∷ [] }
     ensures lengths { map (length_row commutator) (0 ∷ 1 ∷ 2 ∷ []) ≡ pos 2 ∷ negsuc 1 ∷ pos 4 ∷ [] }
 {}
 
