@@ -11,7 +11,7 @@ use sc_chain::{Chain, is_inverse};
 use std::alloc::{AllocError, Global};
 
 /// What a list of sides fails in. The kinds stand in the order in which they are tried.
-#[derive(Clone, Copy, Debug, PartialEq, Eq, PartialOrd, Ord, Hash)]
+#[derive(Clone, Copy, Debug, PartialEq, Eq, Hash)]
 pub enum FlawKind {
     /// A label, a mate or a next of the side is out of range.
     Range,

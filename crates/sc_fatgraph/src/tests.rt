@@ -73,7 +73,7 @@ fn judge(
 ) -> Result<Result<Counts, SurfaceFault>, AllocError> {
     assert!(rt; texts.len() < 100);
     assert!(rt; triples.len() < 100);
-    assert!(rt; n >= 1 && n < 100);
+    assert!(rt; n >= 1 && n <= 1_048_576);
     let words = words_of(rt, alloc, texts)?;
     let chain = Chain::of_reduced(alloc, words).expect(rt, "a chain");
     match Fatgraph::check(alloc, chain, n, sides_of(alloc, triples)?) {
@@ -89,8 +89,9 @@ fn judge(
 
 #[test]
 fn counts_the_orbits_of_turn(rt: HostRuntime) -> Result<(), AllocError> {
-    let cases: [(Texts, u32, Triples, u32, u32, u32); 9] = [
+    let cases: [(Texts, u32, Triples, u32, u32, u32); 10] = [
         (&[], 1, &[], 0, 0, 0),
+        (&[], 1_048_576, &[], 0, 0, 0),
         (&[], 7, &[], 0, 0, 0),
         (
             &[(1, b"abAB")],
