@@ -1,7 +1,7 @@
 //! The flaws of tables that don't vouch for a price list.
 
 /// What tables fail in.
-#[derive(Clone, Copy, Debug, PartialEq, Eq, PartialOrd, Ord, Hash)]
+#[derive(Clone, Copy, Debug, PartialEq, Eq, Hash)]
 pub enum TableFlaw {
     /// The row of the start doesn't have 0 at the start.
     Start {

@@ -1,6 +1,6 @@
 //! Whether tables vouch for a price list.
 
-ghost use Rattle.std.specs.Prelude.{◌≡◌, ◌↔◌, ◌<◌, ℤ, length, IsTrue, Some, OnOk, IfErr};
+ghost use Rattle.std.specs.Prelude.{◌≡◌, ◌↔◌, ◌<◌, ℤ, length, IsTrue, Some, IsOk, IfErr};
 ghost use Rattle.sc_theory.specs.Chains.{positions};
 ghost use Rattle.sc_theory.specs.Prices.{pairs as inverse_pairs, Vouch};
 ghost use Rattle.sc_certificate.specs.Sizes.{FitsCounts};
@@ -94,7 +94,7 @@ pub fn vouch(
 ) -> Result<(), TableFlaw>
     requires pairs { pairs.now ≡ inverse_pairs chain.now }
     requires sizes { FitsCounts (length chain.now) (length (inverse_pairs chain.now)) list.now }
-    ensures ok { OnOk result (Vouch chain.now list.now tables.now) }
+    ensures exactly { IsOk result ↔ Vouch chain.now list.now tables.now }
     ensures flaw { IfErr result (IsFirstTableFlaw chain.now list.now tables.now) }
 {
     for start in 0..chain.positions() {

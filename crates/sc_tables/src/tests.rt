@@ -248,6 +248,17 @@ fn tables_of_two_levels(rt: HostRuntime) -> Result<(), Fail> {
         )?,
         expected
     );
+    assert_eq!(rt;
+        answer_of(
+            rt.alloc(),
+            b"abAB",
+            &fine(-5),
+            &fine(1),
+            &Pair { bulk: 0, fine: 2 }
+        )?
+        .as_str(),
+        "polygon [0, 3, 2, 1]"
+    );
     let bulk = Pair { bulk: 1, fine: -9 };
     assert_eq!(rt;
         answer_of(

@@ -3,8 +3,8 @@ use crate::level::{add_at, sub_at};
 use crate::{Level, Weight, WideLevel};
 use std::cmp::Ordering;
 
-/// A weight of two numbers, ordered by bulk, and then by fine.
-#[derive(Clone, Copy, Debug, PartialEq, Eq, PartialOrd, Ord)]
+/// A weight of two numbers, ordered by bulk, and then by fine: `compare` is its order.
+#[derive(Clone, Copy, Debug, PartialEq, Eq)]
 pub struct Pair {
     /// The level that counts first.
     pub bulk: i128,

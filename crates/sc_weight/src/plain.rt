@@ -5,8 +5,8 @@ use crate::level::{add_at, sub_at};
 use crate::{Level, Weight, WideLevel};
 use std::cmp::Ordering;
 
-/// A weight of one number, which is its fine level; its bulk is 0.
-#[derive(Clone, Copy, Debug, PartialEq, Eq, PartialOrd, Ord)]
+/// A weight of one number, which is its fine level; its bulk is 0. `compare` is its order.
+#[derive(Clone, Copy, Debug, PartialEq, Eq)]
 pub struct Plain(pub i128);
 
 impl Weight for Plain {
