@@ -40,7 +40,7 @@ total_beyond g w h =
     let negative : count_by (is_negative g) w ≡ 0 = none_passes (is_negative g) w (λ k l. other_number (get_or w k no_letter).number g (get_or w k no_letter).inverse (h k l)) in
     rw (positive, negative)
 
-chain_total_beyond : (c : Chain) (g : ℕ) → ((w k : ℕ) → w < length c → k < length (word c w) → (get_or (word c w) k no_letter).number < g) → chain_total g c ≡ pos 0
+pub chain_total_beyond : (c : Chain) (g : ℕ) → ((w k : ℕ) → w < length c → k < length (word c w) → (get_or (word c w) k no_letter).number < g) → chain_total g c ≡ pos 0
 chain_total_beyond [] g h = refl
 chain_total_beyond (u ∷ c) g h =
     let here : total g u.1 ≡ pos 0 = total_beyond g u.1 (λ k l. h 0 k (omega arith) l) in

@@ -4,7 +4,7 @@ use Rattle.std.specs.List.{All, slice_split, onto_first}
 use Rattle.std.proofs.Math.Seq.{drop-cons, take-length}
 use Rattle.std.proofs.Math.ListN.{drop_of_length-le}
 use Rattle.std.proofs.lemmas.List.{append-nil, length-drop}
-use Rattle.std.proofs.lemmas.List.Elements.{All-nil, All-push}
+use Rattle.std.proofs.lemmas.List.Elements.{All-nil, All-push, All-append}
 use Rattle.std.proofs.lemmas.List.Splits.{slice_split-cons_yes, slice_split-cons_no}
 use Rattle.std.proofs.lemmas.Bool.{cases_Bool, cases_lt, cases_order, cond-true, cond-false}
 use Rattle.std.proofs.lemmas.Bool.Decides.{nat_tests}
@@ -80,6 +80,19 @@ line_ranges line z w e = elim (cases_Bool (is_comment (line_fields line))) [
       absurd (none-some (z, w) (same_Some _ _ (sym nothing ∙ e))))
   | inr other ↦ fields_ranges (line_fields line) z w (sym (cond-false (is_comment (line_fields line)) (Some None) (fields_case (line_fields line)) other) ∙ e)
 ]
+
+raw_line_ranges : (n : ℕ) (o : Option Entry) → ((z : ℤ) (w : Word) → o ≡ Some (Some (z, w)) → IsSmall z × HasGenerators w) → All IsRawLine (raw_line n o)
+raw_line_ranges n (Some (Some (z, w))) h =
+    let ranges = h z w refl in
+    All-push IsRawLine [] (record { line = n; coefficient = z; word = w }) (All-nil IsRawLine) (record { low = ranges.0.low; high = ranges.0.high; generators = ranges.1 })
+raw_line_ranges n (Some None) h = All-nil IsRawLine
+raw_line_ranges n None h = All-nil IsRawLine
+
+-- so all lines of a text are in range
+pub raw_lines_in_range : (n : ℕ) (ls : List Line) → All IsRawLine (raw_lines n ls)
+raw_lines_in_range n [] = All-nil IsRawLine
+raw_lines_in_range n (l ∷ ls) =
+    All-append IsRawLine (raw_line n (line_case l)) (raw_lines (suc n) ls) (raw_line_ranges n (line_case l) (line_ranges l)) (raw_lines_in_range (suc n) ls)
 
 -- ---- a text read as far as n lines
 
