@@ -1,0 +1,11 @@
+pub mod CycleLaws
+pub mod Ranks
+pub mod StepCounts
+pub mod GluedLaws
+pub mod GluedVertices
+pub mod LaidCopies
+pub mod Linking
+pub mod KindLaws
+pub mod Sizes
+pub mod PartSizes
+pub mod SideLists

@@ -1,0 +1,6 @@
+pub mod Cycles
+pub mod Gluing
+pub mod Seeds
+pub mod Laying
+pub mod Matching
+pub mod Sides
