@@ -1,16 +1,17 @@
--- A column that improves has a positive product with some row, where each column has a positive product with a list of lengths.
-use Rattle.std.specs.Prelude.{◌≡◌, ◌⊎◌, ℕ, zero, suc, ◌<◌, ◌≤◌, Option, Some, None, ℤ, pos, negsuc, ◌+ℤ◌, ◌*ℤ◌, ◌≤ℤ◌, ◌<ℤ◌}
+-- A column that improves has a positive product with some row, where each column has a positive product with a
+-- list of lengths.
+use Rattle.std.specs.Prelude.{◌≡◌, ◌⊎◌, ℕ, zero, suc, ◌<◌, Option, Some, None, ℤ, pos, ◌*ℤ◌, ◌≤ℤ◌, ◌<ℤ◌}
 use Rattle.std.proofs.Common.{arith, refl, sym, ap, subst, ◌∙◌, inl, inr}
 use Rattle.std.proofs.lemmas.Int.{ints}
 use Rattle.std.proofs.lemmas.Bool.{cases_lt}
 use Rattle.sc_algebra.specs.Sums.{sum_below}
-use Rattle.sc_algebra.proofs.Sums.{sum_non_negative, sum-congr}
-use Rattle.sc_algebra.proofs.Ints.{mul-zero, zero-mul, mul_comm, mul-le_factor}
+use Rattle.sc_algebra.proofs.Sums.{sum_non_negative}
+use Rattle.sc_algebra.proofs.Ints.{mul-zero, zero-mul, mul_comm}
 use Rattle.sc_basis.specs.Products.{dot, unit}
 use Rattle.sc_basis.specs.Bases.{Column, entry_of, Basis, item, columns, entries_at, bulk_cost, bulk_costs}
 use Rattle.sc_basis.specs.Standing.{BasisNumbers, Stands}
 use Rattle.sc_basis.specs.Pivots.{along, Improves}
-use Rattle.sc_basis.specs.Journals.{Inverse, IsReached}
+use Rattle.sc_basis.specs.Journals.{IsReached}
 use Rattle.sc_basis.proofs.Numbers.{mul_pos, le_of_mul, mul_le}
 use Rattle.sc_basis.proofs.LexOrder.{cases_positive}
 use Rattle.sc_basis.proofs.InverseLaws.{determined, row_determined}
@@ -56,10 +57,10 @@ module _ (r : ℕ) (b : ℕ → ℤ) (basis : Basis) (t : BasisNumbers) (c : Col
   unfolding share
   share_sign i inside h =
       le_of_mul (t.denominator i) (share i) (pos 0) (stands.rows i inside).positive
-        (subst (λ (z : ℤ). z ≤ℤ (t.denominator i *ℤ pos 0))
-          (row_determined r (columns basis) reached.inverse i (t.row i) (t.denominator i) inside (stands.rows i inside) (entry_of c))
-          (subst (λ (z : ℤ). (reached.inverse.scale *ℤ along r t c i) ≤ℤ z) (mul-zero reached.inverse.scale ∙ sym (mul-zero (t.denominator i)))
-            (mul_le reached.inverse.scale (along r t c i) (pos 0) reached.inverse.positive h)))
+      (subst (λ (z : ℤ). z ≤ℤ (t.denominator i *ℤ pos 0))
+      (row_determined r (columns basis) reached.inverse i (t.row i) (t.denominator i) inside (stands.rows i inside) (entry_of c))
+      (subst (λ (z : ℤ). (reached.inverse.scale *ℤ along r t c i) ≤ℤ z) (mul-zero reached.inverse.scale ∙ sym (mul-zero (t.denominator i)))
+      (mul_le reached.inverse.scale (along r t c i) (pos 0) reached.inverse.positive h)))
 
   cost_term : (o : Option Column) (s : ℤ) → s ≤ℤ pos 0 → pos 0 ≤ℤ (s *ℤ bulk_cost o)
   cost_term None s h = omega (arith, ints)
@@ -77,7 +78,7 @@ module _ (r : ℕ) (b : ℕ → ℤ) (basis : Basis) (t : BasisNumbers) (c : Col
   length_term i (Some own) s longer h e =
       let positive : pos 0 <ℤ dot r long (entry_of own) = longer own refl in
       subst (λ (z : ℤ). z ≤ℤ pos 0) (mul_comm (dot r long (entry_of own)) s)
-        (subst (λ (z : ℤ). (dot r long (entry_of own) *ℤ s) ≤ℤ z) (mul-zero (dot r long (entry_of own))) (mul_le (dot r long (entry_of own)) s (pos 0) positive h))
+      (subst (λ (z : ℤ). (dot r long (entry_of own) *ℤ s) ≤ℤ z) (mul-zero (dot r long (entry_of own))) (mul_le (dot r long (entry_of own)) s (pos 0) positive h))
 
   pub bounded_column : ((i : ℕ) (own : Column) → i < r → item basis i ≡ Some own → pos 0 <ℤ dot r long (entry_of own)) → pos 0 <ℤ dot r long (entry_of c) → Improves r t c
       → (i : ℕ) × (i < r) × (pos 0 <ℤ along r t c i)
@@ -90,22 +91,25 @@ module _ (r : ℕ) (b : ℕ → ℤ) (basis : Basis) (t : BasisNumbers) (c : Col
     where
       cheap : dot r t.bulk (entry_of c) ≤ℤ pos 0
       cheap = elim improves [ inl less ↦ omega (arith, ints) | inr same ↦ (let e = same.0 in omega (arith, ints)) ]
+
       scaled_sign : (z x : ℤ) → pos 0 <ℤ z → x ≤ℤ pos 0 → (z *ℤ x) ≤ℤ pos 0
       scaled_sign z x p h = subst (λ (y : ℤ). (z *ℤ x) ≤ℤ y) (mul-zero z) (mul_le z x (pos 0) p h)
+
       sign_of : (z x : ℤ) → pos 0 <ℤ z → (z *ℤ x) ≤ℤ pos 0 → x ≤ℤ pos 0
       sign_of z x p h = le_of_mul z x (pos 0) p (subst (λ (y : ℤ). (z *ℤ x) ≤ℤ y) (sym (mul-zero z)) h)
+
       impossible : ((i : ℕ) → i < r → along r t c i ≤ℤ pos 0) → ⊥
       impossible none =
           let inv = reached.inverse in
           let total : sum_below (λ i. share i *ℤ bulk_costs basis i) r ≤ℤ pos 0 =
-                sign_of t.bulk_scale _ stands.bulk.positive
-                  (subst (λ (z : ℤ). z ≤ℤ pos 0) (determined r (columns basis) inv (bulk_costs basis) t.bulk t.bulk_scale stands.bulk (entry_of c))
-                    (scaled_sign inv.scale _ inv.positive cheap)) in
+          sign_of t.bulk_scale _ stands.bulk.positive
+          (subst (λ (z : ℤ). z ≤ℤ pos 0) (determined r (columns basis) inv (bulk_costs basis) t.bulk t.bulk_scale stands.bulk (entry_of c))
+          (scaled_sign inv.scale _ inv.positive cheap)) in
           let terms : (i : ℕ) → i < r → share i *ℤ bulk_costs basis i ≡ pos 0 =
-                zero_terms (λ i. share i *ℤ bulk_costs basis i) r (λ i l. cost_term (item basis i) (share i) (share_sign i l (none i l))) total in
+          zero_terms (λ i. share i *ℤ bulk_costs basis i) r (λ i l. cost_term (item basis i) (share i) (share_sign i l (none i l))) total in
           let lengths : sum_below (λ i. share i *ℤ dot r long (columns basis i)) r ≤ℤ pos 0 =
-                sum_non_positive (λ i. share i *ℤ dot r long (columns basis i)) r
-                  (λ i l. length_term i (item basis i) (share i) (λ own e. longer i own l e) (share_sign i l (none i l)) (terms i l)) in
+          sum_non_positive (λ i. share i *ℤ dot r long (columns basis i)) r
+          (λ i l. length_term i (item basis i) (share i) (λ own e. longer i own l e) (share_sign i l (none i l)) (terms i l)) in
           let whole : (inv.scale *ℤ dot r long (entry_of c)) ≤ℤ pos 0 = subst (λ (z : ℤ). z ≤ℤ pos 0) (sym (inv.spread long (entry_of c))) lengths in
           let product : pos 0 <ℤ (inv.scale *ℤ dot r long (entry_of c)) = mul_pos inv.scale (dot r long (entry_of c)) inv.positive entering in
           omega (arith, ints)

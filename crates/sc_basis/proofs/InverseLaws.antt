@@ -5,14 +5,14 @@ use Rattle.std.proofs.lemmas.Int.{ints}
 use Rattle.std.proofs.lemmas.Bool.{cases_eq}
 use Rattle.sc_algebra.specs.Sums.{sum_below}
 use Rattle.sc_algebra.proofs.Sums.{sum-congr, sum-add, sum-sub, sum-mul_left, sum-single}
-use Rattle.sc_algebra.proofs.Ints.{products, mul-one, one-mul, mul-zero, zero-mul, mul_comm, mul_left_comm, mul_assoc}
+use Rattle.sc_algebra.proofs.Ints.{products, mul-one, one-mul, mul-zero, zero-mul, mul_comm, mul_left_comm}
 use Rattle.sc_basis.specs.Products.{dot, unit, IsCoprime}
 use Rattle.sc_basis.specs.Bases.{unit_basis, columns}
 use Rattle.sc_basis.specs.Standing.{Gives}
 use Rattle.sc_basis.specs.Lines.{line}
 use Rattle.sc_basis.specs.Journals.{Inverse}
 use Rattle.sc_basis.proofs.Numbers.{cancel_pos, mul_pos}
-use Rattle.sc_basis.proofs.ProductLaws.{unit_same, unit_other, dot-turned, dot-unit, dot-congr, dot-combine}
+use Rattle.sc_basis.proofs.ProductLaws.{unit_same, unit_other, dot-turned, dot-unit, dot-combine}
 use Rattle.sc_basis.proofs.Replacing.{IsReplaced}
 use Rattle.sc_basis.proofs.Units.{dot-columns-units}
 use Rattle.sc_basis.proofs.Uniqueness.{same_numbers}
@@ -36,8 +36,8 @@ unfolding inverse_start
 inverse_start_row r i = refl
 
 -- ---- after a pivot
--- row i of the new inverse: row l gets the old scale, from each other row i its product a i with the entering column is taken
--- away, in row l
+-- row i of the new inverse: row l gets the old scale, from each other row i its product a i with the entering
+-- column is taken away, in row l
 abbrev pub row_after : ℕ → ℤ → (ℕ → ℕ → ℤ) → (ℕ → ℤ) → ℕ → ℕ → ℕ → ℤ
 row_after r scale row c l i k = dot r (row l) c *ℤ row i k +ℤ (scale *ℤ unit i l -ℤ dot r (row i) c) *ℤ row l k
 
@@ -155,8 +155,8 @@ drawn_out : (r : ℕ) (d : ℤ) (f x : ℕ → ℤ) → sum_below (λ i. f i *�
 drawn_out r d f x =
     sum-congr (λ i. f i *ℤ (d *ℤ x i)) (λ i. d *ℤ (f i *ℤ x i)) r (λ i h. mul_left_comm (f i) d (x i)) ∙ sum-mul_left d (λ i. f i *ℤ x i) r
 
--- a list that gives x over d has with each v the product d times the sum of x i times that of row i of the inverse, over the
--- inverse's scale
+-- a list that gives x over d has with each v the product d times the sum of x i times that of row i of the
+-- inverse, over the inverse's scale
 pub determined : (r : ℕ) (column : ℕ → ℕ → ℤ) (inv : Inverse r column) (x w : ℕ → ℤ) (d : ℤ) → Gives r column x w d → (v : ℕ → ℤ) → inv.scale *ℤ dot r w v ≡ d *ℤ sum_below (λ i. dot r (inv.row i) v *ℤ x i) r
 determined r column inv x w d g v =
     inv.spread w v

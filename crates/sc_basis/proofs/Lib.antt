@@ -1,12 +1,14 @@
 pub mod BoundedColumns
 pub mod CommonDivisors
 pub mod EntryLaws
+pub mod EvidenceLaws
 pub mod InverseLaws
 pub mod JournalLaws
 pub mod LexOrder
 pub mod Numbers
 pub mod Pivoting
 pub mod ProductLaws
+pub mod Ratios
 pub mod Replacing
 pub mod RiseValues
 pub mod RisingJournals

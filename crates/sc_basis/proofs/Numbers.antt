@@ -1,10 +1,10 @@
 -- Products with a positive factor. They stand here and not in sc_algebra, where an edit would prove every crate anew.
-use Rattle.std.specs.Prelude.{◌≡◌, ◌⊎◌, ℕ, zero, suc, ◌+◌, ◌*◌, ◌<◌, ◌≤◌, ℤ, pos, negsuc, ◌+ℤ◌, ◌-ℤ◌, ◌*ℤ◌, neg_ℤ, ◌≤ℤ◌, ◌<ℤ◌}
-use Rattle.std.proofs.Common.{arith, refl, sym, ap, ◌∙◌, inl, inr}
+use Rattle.std.specs.Prelude.{◌≡◌, ◌+◌, ℤ, pos, negsuc, ◌*ℤ◌, ◌≤ℤ◌, ◌<ℤ◌}
+use Rattle.std.proofs.Common.{arith, inl, inr}
 use Rattle.std.proofs.lemmas.Int.{ints}
 use Rattle.std.proofs.lemmas.Bool.{cases_lt}
 use borrow.Author.Differences.{up, down}
-use Rattle.sc_algebra.proofs.Ints.{mul_add, mul-one, cancel_factor, cancel_le, mul-le_left}
+use Rattle.sc_algebra.proofs.Ints.{cancel_factor, cancel_le, mul-le_left}
 
 pub cancel_pos : (z a b : ℤ) → pos 0 <ℤ z → z *ℤ a ≡ z *ℤ b → a ≡ b
 cancel_pos z a b p e = cancel_factor z a b (λ (h : z ≡ pos 0). let bad : ⊥ = omega (arith, ints) in bad) e

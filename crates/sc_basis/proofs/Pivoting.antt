@@ -1,15 +1,15 @@
 -- A pivot keeps rows and prices standing.
-use Rattle.std.specs.Prelude.{◌≡◌, ◌≢◌, ℕ, ◌<◌, length, Option, Some, None, ℤ, pos, ◌+ℤ◌, ◌-ℤ◌, ◌*ℤ◌, ◌<ℤ◌}
+use Rattle.std.specs.Prelude.{◌≡◌, ◌≢◌, ℕ, ◌<◌, length, Option, Some, ℤ, pos, ◌+ℤ◌, ◌-ℤ◌, ◌*ℤ◌, ◌<ℤ◌}
 use Rattle.std.proofs.Common.{arith, refl, sym, ap, ap₂, subst, ◌∙◌, inl, inr}
 use Rattle.std.proofs.lemmas.Int.{ints}
 use Rattle.std.proofs.lemmas.Bool.{cases_eq}
-use Rattle.sc_algebra.proofs.Ints.{products, mul_comm, mul_assoc, mul-one, mul-zero}
+use Rattle.sc_algebra.proofs.Ints.{products, mul_assoc, mul-one, mul-zero}
 use Rattle.sc_basis.specs.Products.{dot, unit, IsCoprime, IsReduced}
 use Rattle.sc_basis.specs.Bases.{Column, entry_of, Basis, item, columns, bulk_cost, fine_cost}
 use Rattle.sc_basis.specs.Standing.{Gives, BasisNumbers, Stands}
 use Rattle.sc_basis.specs.Pivots.{along, after_pivot, RowsPivoted, gap, PricesPivoted, NumbersPivoted}
 use Rattle.sc_basis.proofs.Numbers.{cancel_pos, mul_pos, pos_of_mul}
-use Rattle.sc_basis.proofs.ProductLaws.{unit_same, unit_other, dot-congr, dot-mul, dot-combine, dot-difference}
+use Rattle.sc_basis.proofs.ProductLaws.{unit_same, unit_other, dot-congr, dot-mul, dot-combine}
 use Rattle.sc_basis.proofs.Replacing.{IsReplaced, replaced, item-here, item-other}
 
 pub dot-reduced : (r : ℕ) (v : ℕ → ℤ) (d : ℤ) (w : ℕ → ℤ) (e : ℤ) (y : ℕ → ℤ) (h : IsReduced r v d w e) → h.factor *ℤ dot r v y ≡ dot r w y
@@ -103,7 +103,7 @@ gives_other r column column' c l i v d w e apart new row left p =
     (gives_combined r column column' c l (unit i) (unit i) v d w e new (λ j h. refl) row left p)
 
 -- ---- over a basis
-reduced_same : (r : ℕ) (v : ℕ → ℤ) (d : ℤ) (w w' : ℕ → ℤ) (e e' : ℤ) → ((k : ℕ) → k < r → w k ≡ w' k) → e ≡ e' → IsReduced r v d w e → IsReduced r v d w' e'
+pub reduced_same : (r : ℕ) (v : ℕ → ℤ) (d : ℤ) (w w' : ℕ → ℤ) (e e' : ℤ) → ((k : ℕ) → k < r → w k ≡ w' k) → e ≡ e' → IsReduced r v d w e → IsReduced r v d w' e'
 reduced_same r v d w w' e e' entries scale h =
     record { factor = h.factor; positive = h.positive; entries = λ k l. h.entries k l ∙ entries k l; scale = h.scale ∙ scale; coprime = h.coprime }
 

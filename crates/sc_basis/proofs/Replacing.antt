@@ -1,6 +1,6 @@
 -- A column in place of one item of a basis.
-use Rattle.std.specs.Prelude.{◌≡◌, ◌≢◌, ℕ, ◌<◌, length, set, get_or, Option, Some, None, ℤ}
-use Rattle.std.proofs.Common.{refl, sym, ap, ◌∙◌}
+use Rattle.std.specs.Prelude.{◌≡◌, ◌≢◌, ℕ, ◌<◌, length, Option, Some, None, ℤ}
+use Rattle.std.proofs.Common.{ap}
 use Rattle.std.proofs.lemmas.List.{length-set, get_or-set_same, get_or-set_other}
 use Rattle.sc_basis.specs.Bases.{Column, entry_of, Basis, item, entries_at, columns}
 use Rattle.sc_basis.specs.Pivots.{after_pivot}

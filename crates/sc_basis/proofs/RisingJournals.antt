@@ -1,14 +1,13 @@
 -- The rise value along the prefixes of a lawful journal.
-use Rattle.std.specs.Prelude.{◌≡◌, ◌⊎◌, ℕ, zero, suc, ◌<◌, ◌≤◌, length, take, [], ◌∷◌, ℤ, pos, ◌*ℤ◌, ◌<ℤ◌}
-use Rattle.std.proofs.Common.{arith, refl, sym, ap, ap₂, subst, ◌∙◌, inl, inr}
+use Rattle.std.specs.Prelude.{◌≡◌, ℕ, zero, suc, ◌<◌, ◌≤◌, length, take, [], ◌∷◌, ℤ, pos, ◌*ℤ◌, ◌<ℤ◌}
+use Rattle.std.proofs.Common.{arith, refl, sym, ap, subst, ◌∙◌, inl, inr}
 use Rattle.std.proofs.Math.Path.{subst₂}
-use Rattle.std.proofs.lemmas.Int.{ints}
 use Rattle.sc_algebra.proofs.Ints.{mul_left_comm}
 use Rattle.sc_basis.specs.Products.{dot, unit}
-use Rattle.sc_basis.specs.Bases.{Column, entry_of, Basis, columns, bulk_costs, fine_costs}
+use Rattle.sc_basis.specs.Bases.{entry_of, Basis, columns, bulk_costs, fine_costs}
 use Rattle.sc_basis.specs.Standing.{BasisNumbers, Stands}
-use Rattle.sc_basis.specs.Lines.{LexLess, line}
-use Rattle.sc_basis.specs.Pivots.{Improves, along, Pivot, IsLawful, after_pivot}
+use Rattle.sc_basis.specs.Lines.{line}
+use Rattle.sc_basis.specs.Pivots.{along, Pivot, IsLawful, after_pivot}
 use Rattle.sc_basis.specs.Journals.{Journal, LawfulFrom, basis_after, Inverse, IsReached}
 use Rattle.sc_basis.specs.Values.{SameLine, LesserLine, Rises}
 use Rattle.sc_basis.proofs.Numbers.{cancel_pos}
@@ -25,23 +24,23 @@ module _ (r : ℕ) (b : ℕ → ℤ) (u v w : ℕ → ℤ) (d e g : ℤ) (first 
   lesser_same : LesserLine r b u d v e → SameLine r b v e w g → LesserLine r b u d w g
   lesser_same p q =
       lex_unscale (suc r) e (λ k. g *ℤ line r b u k) (λ k. d *ℤ line r b w k) second
-        (lex_map (suc r) (λ k. g *ℤ (e *ℤ line r b u k)) (λ k. g *ℤ (d *ℤ line r b v k)) _ _
-          (λ k l. mul_left_comm g e (line r b u k))
-          (λ k l. mul_left_comm g d (line r b v k) ∙ ap (λ (z : ℤ). d *ℤ z) (q k l) ∙ mul_left_comm d e (line r b w k))
-          (lex_scale (suc r) g (λ k. e *ℤ line r b u k) (λ k. d *ℤ line r b v k) third p))
+      (lex_map (suc r) (λ k. g *ℤ (e *ℤ line r b u k)) (λ k. g *ℤ (d *ℤ line r b v k)) _ _
+      (λ k l. mul_left_comm g e (line r b u k))
+      (λ k l. mul_left_comm g d (line r b v k) ∙ ap (λ (z : ℤ). d *ℤ z) (q k l) ∙ mul_left_comm d e (line r b w k))
+      (lex_scale (suc r) g (λ k. e *ℤ line r b u k) (λ k. d *ℤ line r b v k) third p))
 
   same_lesser : SameLine r b u d v e → LesserLine r b v e w g → LesserLine r b u d w g
   same_lesser p q =
       lex_unscale (suc r) e (λ k. g *ℤ line r b u k) (λ k. d *ℤ line r b w k) second
-        (lex_map (suc r) (λ k. d *ℤ (g *ℤ line r b v k)) (λ k. d *ℤ (e *ℤ line r b w k)) _ _
-          (λ k l. mul_left_comm d g (line r b v k) ∙ ap (λ (z : ℤ). g *ℤ z) (sym (p k l)) ∙ mul_left_comm g e (line r b u k))
-          (λ k l. mul_left_comm d e (line r b w k))
-          (lex_scale (suc r) d (λ k. g *ℤ line r b v k) (λ k. e *ℤ line r b w k) first q))
+      (lex_map (suc r) (λ k. d *ℤ (g *ℤ line r b v k)) (λ k. d *ℤ (e *ℤ line r b w k)) _ _
+      (λ k l. mul_left_comm d g (line r b v k) ∙ ap (λ (z : ℤ). g *ℤ z) (sym (p k l)) ∙ mul_left_comm g e (line r b u k))
+      (λ k l. mul_left_comm d e (line r b w k))
+      (lex_scale (suc r) d (λ k. g *ℤ line r b v k) (λ k. e *ℤ line r b w k) first q))
 
   same_same : SameLine r b u d v e → SameLine r b v e w g → SameLine r b u d w g
   same_same p q k l =
       cancel_pos e (g *ℤ line r b u k) (d *ℤ line r b w k) second
-        (mul_left_comm e g (line r b u k) ∙ ap (λ (z : ℤ). g *ℤ z) (p k l) ∙ mul_left_comm g d (line r b v k) ∙ ap (λ (z : ℤ). d *ℤ z) (q k l) ∙ mul_left_comm d e (line r b w k))
+      (mul_left_comm e g (line r b u k) ∙ ap (λ (z : ℤ). g *ℤ z) (p k l) ∙ mul_left_comm g d (line r b v k) ∙ ap (λ (z : ℤ). d *ℤ z) (q k l) ∙ mul_left_comm d e (line r b w k))
 
 module _ (r : ℕ) (b : ℕ → ℤ) where
   pub rises_trans : (basis basis' basis'' : Basis) (t t' t'' : BasisNumbers) → Stands r basis t → Stands r basis' t' → Stands r basis'' t'' → Rises r b t t' → Rises r b t' t'' → Rises r b t t''
@@ -49,8 +48,10 @@ module _ (r : ℕ) (b : ℕ → ℤ) where
   rises_trans basis basis' basis'' t t' t'' s s' s'' (inl p) (inr (q, x)) = inl (lesser_same r b t.bulk t'.bulk t''.bulk t.bulk_scale t'.bulk_scale t''.bulk_scale s.bulk.positive s'.bulk.positive s''.bulk.positive p q)
   rises_trans basis basis' basis'' t t' t'' s s' s'' (inr (p, x)) (inl q) = inl (same_lesser r b t.bulk t'.bulk t''.bulk t.bulk_scale t'.bulk_scale t''.bulk_scale s.bulk.positive s'.bulk.positive s''.bulk.positive p q)
   rises_trans basis basis' basis'' t t' t'' s s' s'' (inr (p, x)) (inr (q, y)) =
-      inr (same_same r b t.bulk t'.bulk t''.bulk t.bulk_scale t'.bulk_scale t''.bulk_scale s.bulk.positive s'.bulk.positive s''.bulk.positive p q,
-        lesser_lesser r b t.fine t'.fine t''.fine t.fine_scale t'.fine_scale t''.fine_scale s.fine.positive s'.fine.positive s''.fine.positive x y)
+      inr (
+        same_same r b t.bulk t'.bulk t''.bulk t.bulk_scale t'.bulk_scale t''.bulk_scale s.bulk.positive s'.bulk.positive s''.bulk.positive p q,
+        lesser_lesser r b t.fine t'.fine t''.fine t.fine_scale t'.fine_scale t''.fine_scale s.fine.positive s'.fine.positive s''.fine.positive x y,
+      )
 
   pub rises_irreflexive : (t : BasisNumbers) → Rises r b t t → ⊥
   rises_irreflexive t (inl p) = lex_irreflexive (suc r) (λ k. t.bulk_scale *ℤ line r b t.bulk k) p
@@ -72,30 +73,38 @@ module _ (r : ℕ) (b : ℕ → ℤ) where
     pub pivot_rises : (basis : Basis) (p : Pivot) (t t' : BasisNumbers) → IsReached r b basis → IsLawful r b basis p → Stands r basis t → Stands r (after_pivot basis p) t' → Rises r b t t'
     pivot_rises basis p t t' reached lawful stands after =
         one_pivot_rises r b basis p.0 p.1 t t' reached (step basis p reached lawful) stands after lawful.leaves.inside
-          (subst (λ (z : ℤ). pos 0 <ℤ z) along_same lawful.leaves.positive)
-          (elim lawful.improves [
-            | inl less ↦ inl (subst (λ (z : ℤ). z <ℤ pos 0) bulk_same less)
-            | inr level ↦ inr (sym bulk_same ∙ level.0, subst₂ (λ (y z : ℤ). y <ℤ z) fine_same fine.0 level.1)
-          ])
+        (subst (λ (z : ℤ). pos 0 <ℤ z) along_same lawful.leaves.positive)
+        (elim lawful.improves [
+          | inl less ↦ inl (subst (λ (z : ℤ). z <ℤ pos 0) bulk_same less)
+          | inr level ↦ inr (sym bulk_same ∙ level.0, subst₂ (λ (y z : ℤ). y <ℤ z) fine_same fine.0 level.1)
+        ])
       where
         n : BasisNumbers
         n = lawful.numbers
+
         inverse : Inverse r (columns basis)
         inverse = reached.inverse
+
         c : ℕ → ℤ
         c = entry_of p.1
+
         bulk : (n.bulk_scale ≡ t.bulk_scale) × ((k : ℕ) → k < r → n.bulk k ≡ t.bulk k)
         bulk = unique r (columns basis) inverse (bulk_costs basis) n.bulk t.bulk n.bulk_scale t.bulk_scale lawful.stands.bulk stands.bulk lawful.stands.bulk_coprime stands.bulk_coprime
+
         fine : (n.fine_scale ≡ t.fine_scale) × ((k : ℕ) → k < r → n.fine k ≡ t.fine k)
         fine = unique r (columns basis) inverse (fine_costs basis) n.fine t.fine n.fine_scale t.fine_scale lawful.stands.fine stands.fine lawful.stands.fine_coprime stands.fine_coprime
+
         row : (n.denominator p.0 ≡ t.denominator p.0) × ((k : ℕ) → k < r → n.row p.0 k ≡ t.row p.0 k)
         row =
             unique r (columns basis) inverse (unit p.0) (n.row p.0) (t.row p.0) (n.denominator p.0) (t.denominator p.0) (lawful.stands.rows p.0 lawful.leaves.inside) (stands.rows p.0 lawful.leaves.inside)
-              (lawful.stands.rows_coprime p.0 lawful.leaves.inside) (stands.rows_coprime p.0 lawful.leaves.inside)
+            (lawful.stands.rows_coprime p.0 lawful.leaves.inside) (stands.rows_coprime p.0 lawful.leaves.inside)
+
         bulk_same : dot r n.bulk c ≡ dot r t.bulk c
         bulk_same = dot-congr r n.bulk t.bulk c c bulk.1 (λ k l. refl)
+
         fine_same : dot r n.fine c ≡ dot r t.fine c
         fine_same = dot-congr r n.fine t.fine c c fine.1 (λ k l. refl)
+
         along_same : along r n p.1 p.0 ≡ along r t p.1 p.0
         along_same = dot-congr r (n.row p.0) (t.row p.0) c c row.1 (λ k l. refl)
 
@@ -103,8 +112,8 @@ module _ (r : ℕ) (b : ℕ → ℤ) where
     later_rises basis p [] t t' reached lawful stands after = pivot_rises basis p t t' reached lawful.0 stands after
     later_rises basis p (q ∷ qs) t t' reached lawful stands after =
         rises_trans basis (after_pivot basis p) (basis_after basis (p ∷ q ∷ qs)) t lawful.1.0.numbers t' stands lawful.1.0.stands after
-          (pivot_rises basis p t lawful.1.0.numbers reached lawful.0 stands lawful.1.0.stands)
-          (later_rises (after_pivot basis p) q qs lawful.1.0.numbers t' (step basis p reached lawful.0) lawful.1 lawful.1.0.stands after)
+        (pivot_rises basis p t lawful.1.0.numbers reached lawful.0 stands lawful.1.0.stands)
+        (later_rises (after_pivot basis p) q qs lawful.1.0.numbers t' (step basis p reached lawful.0) lawful.1 lawful.1.0.stands after)
 
     -- of two prefixes the longer one ends with the greater rise value
     pub prefixes_rise : (basis : Basis) (ps : Journal) (m n : ℕ) (t t' : BasisNumbers) → IsReached r b basis → LawfulFrom r b basis ps → m < n → n ≤ length ps

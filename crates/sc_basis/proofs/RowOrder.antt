@@ -1,9 +1,9 @@
 -- The rows of a basis in the order of their lists over their products with the entering column.
 use Rattle.std.specs.Prelude.{◌≡◌, ◌≢◌, ◌⊎◌, ℕ, zero, suc, ◌<◌, ◌≤◌, ℤ, pos, ◌*ℤ◌, ◌≤ℤ◌, ◌<ℤ◌}
-use Rattle.std.proofs.Common.{arith, refl, sym, ap, ap₂, subst, ◌∙◌, inl, inr}
+use Rattle.std.proofs.Common.{arith, refl, sym, ap, subst, ◌∙◌, inl, inr}
 use Rattle.std.proofs.lemmas.Int.{ints}
 use Rattle.std.proofs.lemmas.Bool.{cases_lt, cases_eq}
-use Rattle.sc_basis.specs.Products.{dot, unit}
+use Rattle.sc_basis.specs.Products.{dot}
 use Rattle.sc_basis.specs.Bases.{Column, Basis, columns}
 use Rattle.sc_basis.specs.Standing.{BasisNumbers, Stands}
 use Rattle.sc_basis.specs.Lines.{LexLess, line}
@@ -21,18 +21,20 @@ lists_differ r b basis t c i l stands inside within apart positive above same =
     let y : ℤ = along r t c l in
     let col : ℕ → ℤ = columns basis i in
     let scaled : x *ℤ dot r (t.row l) col ≡ y *ℤ dot r (t.row i) col =
-          sym (dot-mul r x (t.row l) col) ∙ dot-congr r (λ k. x *ℤ t.row l k) (λ k. y *ℤ t.row i k) col col (λ k m. same (suc k) (omega arith)) (λ k m. refl) ∙ dot-mul r y (t.row i) col in
+    sym (dot-mul r x (t.row l) col) ∙ dot-congr r (λ k. x *ℤ t.row l k) (λ k. y *ℤ t.row i k) col col (λ k m. same (suc k) (omega arith)) (λ k m. refl) ∙ dot-mul r y (t.row i) col in
     let left : dot r (t.row l) col ≡ pos 0 =
-          (stands.rows l within).product i inside ∙ ap (λ (u : ℤ). t.denominator l *ℤ u) (unit_other l i apart) ∙ zero_product (t.denominator l) in
+    (stands.rows l within).product i inside ∙ ap (λ (u : ℤ). t.denominator l *ℤ u) (unit_other l i apart) ∙ zero_product (t.denominator l) in
     let right : dot r (t.row i) col ≡ t.denominator i =
-          (stands.rows i inside).product i inside ∙ ap (λ (u : ℤ). t.denominator i *ℤ u) (unit_same i) ∙ one_product (t.denominator i) in
+    (stands.rows i inside).product i inside ∙ ap (λ (u : ℤ). t.denominator i *ℤ u) (unit_same i) ∙ one_product (t.denominator i) in
     clash x y (t.denominator i) (mul_pos y (t.denominator i) above (stands.rows i inside).positive)
-      (sym (zero_product x) ∙ ap (λ (u : ℤ). x *ℤ u) (sym left) ∙ scaled ∙ ap (λ (u : ℤ). y *ℤ u) right)
+    (sym (zero_product x) ∙ ap (λ (u : ℤ). x *ℤ u) (sym left) ∙ scaled ∙ ap (λ (u : ℤ). y *ℤ u) right)
   where
     zero_product : (d : ℤ) → d *ℤ pos 0 ≡ pos 0
     zero_product d = omega (arith, ints)
+
     one_product : (d : ℤ) → d *ℤ pos 1 ≡ d
     one_product d = omega (arith, ints)
+
     clash : (x y d : ℤ) → pos 0 <ℤ (y *ℤ d) → pos 0 ≡ y *ℤ d → ⊥
     clash x y d p e = omega (arith, ints)
 
@@ -59,11 +61,14 @@ module _ (r : ℕ) (b : ℕ → ℤ) (t : BasisNumbers) (c : Column) where
         | inl positive ↦ elim (lex_total (suc r) (λ k. along r t c n *ℤ line r b (t.row l) k) (λ k. along r t c l *ℤ line r b (t.row n) k)) [
           | inl below ↦ (l, kept (λ p. below))
           | inr (inl same) ↦ absurd (lists_differ r b basis t c n l stands inside (omega (arith, best.within)) (omega (arith, best.within)) positive best.positive same)
-          | inr (inr above) ↦ (n, record {
+          | inr (inr above) ↦ (
+            n,
+            record {
               within = omega arith;
               positive = positive;
-              least = λ i inner apart p. taken i positive above p (omega arith)
-            })
+              least = λ i inner apart p. taken i positive above p (omega arith);
+            },
+          )
         ]
       ]
     where
@@ -75,8 +80,9 @@ module _ (r : ℕ) (b : ℕ → ℤ) (t : BasisNumbers) (c : Column) where
             least = λ i inner apart p. elim (cases_lt i n) [
               | inl below ↦ best.least i below apart p
               | inr past ↦ (let at : n ≡ i = omega arith in subst (λ j. pos 0 <ℤ along r t c j → Lower l j) at last p)
-            ]
+            ];
           }
+
       taken : (i : ℕ) → pos 0 <ℤ along r t c n → Lower n l → pos 0 <ℤ along r t c i → i < n → Lower n i
       taken i positive above p below =
           elim (cases_eq i l) [

@@ -23,8 +23,8 @@ out g h e x = simp products (omega (arith, ints))
 first_factor : (g h m al p : ℤ) → g *ℤ m ≡ al → h *ℤ p ≡ m → g *ℤ (h *ℤ p) ≡ al
 first_factor g h m al p gm hp = ap (λ (s : ℤ). g *ℤ s) hp ∙ gm
 
--- a row x over d with so much of the leaving row w taken away that its product a with the column becomes 0. The product of the
--- leaving row is al, and t over m is the leaving row over al
+-- a row x over d with so much of the leaving row w taken away that its product a with the column becomes 0. The
+-- product of the leaving row is al, and t over m is the leaving row over al
 pub row_by_rule : (r : ℕ) (x w t y : ℕ → ℤ) (d e m al a p q : ℤ) → IsReduced r t m w al → IsLowest m a p q
     → IsReduced r y e (λ k. x k *ℤ p -ℤ q *ℤ t k) (d *ℤ p) → IsReduced r y e (λ k. al *ℤ x k -ℤ a *ℤ w k) (al *ℤ d)
 row_by_rule r x w t y d e m al a p q left ratio new =

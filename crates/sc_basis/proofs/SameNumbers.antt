@@ -1,18 +1,17 @@
 -- What improves and what leaves by some numbers, does so by the same numbers.
-use Rattle.std.specs.Prelude.{◌≡◌, ◌≢◌, ◌⊎◌, ℕ, zero, suc, ◌<◌, ℤ, pos, ◌*ℤ◌, ◌<ℤ◌}
-use Rattle.std.proofs.Common.{arith, refl, sym, ap, ap₂, subst, ◌∙◌, inl, inr}
+use Rattle.std.specs.Prelude.{◌≡◌, ℕ, zero, suc, ◌<◌, ℤ, pos, ◌*ℤ◌, ◌<ℤ◌}
+use Rattle.std.proofs.Common.{arith, refl, sym, ap₂, subst, ◌∙◌, inl, inr}
 use Rattle.std.proofs.Math.Path.{subst₂}
-use Rattle.sc_basis.specs.Products.{dot}
 use Rattle.sc_basis.specs.Bases.{Column, entry_of, Basis}
 use Rattle.sc_basis.specs.Standing.{BasisNumbers, Stands, AreSameNumbers}
-use Rattle.sc_basis.specs.Lines.{LexLess, line}
+use Rattle.sc_basis.specs.Lines.{line}
 use Rattle.sc_basis.specs.Pivots.{Improves, along, IsLeaving}
 use Rattle.sc_basis.specs.Journals.{IsReached}
 use Rattle.sc_basis.proofs.ProductLaws.{dot-congr}
 use Rattle.sc_basis.proofs.LexOrder.{lex_map}
 use Rattle.sc_basis.proofs.JournalLaws.{standing_unique}
 
-along_same : (r : ℕ) (t t' : BasisNumbers) (c : Column) (i : ℕ) → AreSameNumbers r t t' → i < r → along r t c i ≡ along r t' c i
+pub along_same : (r : ℕ) (t t' : BasisNumbers) (c : Column) (i : ℕ) → AreSameNumbers r t t' → i < r → along r t c i ≡ along r t' c i
 along_same r t t' c i same inside = dot-congr r (t.row i) (t'.row i) (entry_of c) (entry_of c) (λ k l. same.rows i k inside l) (λ k l. refl)
 
 line_same : (r : ℕ) (b : ℕ → ℤ) (t t' : BasisNumbers) (i k : ℕ) → AreSameNumbers r t t' → i < r → k < suc r → line r b (t.row i) k ≡ line r b (t'.row i) k

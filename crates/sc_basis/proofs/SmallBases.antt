@@ -1,15 +1,15 @@
 -- The small bases of the examples, by computing.
-use Rattle.std.specs.Prelude.{◌≡◌, ◌≢◌, ℕ, zero, suc, ◌<◌, true, false, None, Some, [], ◌∷◌, ℤ, pos, negsuc, ◌*ℤ◌, ◌≤ℤ◌, ◌<ℤ◌, unsigned_abs}
+use Rattle.std.specs.Prelude.{◌≡◌, ◌≢◌, ℕ, zero, suc, ◌<◌, true, false, None, Some, [], ℤ, pos, ◌*ℤ◌, ◌≤ℤ◌, ◌<ℤ◌, unsigned_abs}
 use Rattle.std.specs.Int.{◌∣◌}
-use Rattle.std.proofs.Common.{arith, refl, sym, ap, ◌∙◌, inl, inr}
+use Rattle.std.proofs.Common.{arith, refl, ap, ◌∙◌, inl}
 use Rattle.std.proofs.Math.Nat.{eq-one_of_dvd-one, dvd-mul_right}
 use Rattle.std.proofs.lemmas.Int.{ints}
 use Rattle.sc_algebra.proofs.Ints.{one-mul, zero-mul}
 use Rattle.sc_basis.specs.Products.{dot, unit, IsCoprime, IsNonNegative}
 use Rattle.sc_basis.specs.Bases.{Basis, unit_basis, columns, bulk_costs, fine_costs}
-use Rattle.sc_basis.specs.Standing.{Gives, BasisNumbers, Stands, start_numbers}
+use Rattle.sc_basis.specs.Standing.{Gives, Stands, start_numbers}
 use Rattle.sc_basis.specs.Lines.{LexLess, line}
-use Rattle.sc_basis.specs.Pivots.{Improves, along, IsLeaving, IsLawful}
+use Rattle.sc_basis.specs.Pivots.{along, IsLeaving}
 use Rattle.sc_basis.specs.Journals.{IsJournal, basis_after}
 use Rattle.sc_basis.specs.Examples.{one_word, square, square_enters, square_numbers, doubled_numbers, wrong_scale_numbers, two_words, two_starts, two_starts_enter, two_starts_too_early, two_starts_numbers}
 use Rattle.sc_basis.specs.Evidence.{RowStep, Operands, IsEvidence, row_difference}

@@ -1,14 +1,14 @@
--- Two lists that stand for the same in one basis, both without a common divisor, are the same. Lists in proportion are multiples
--- of one list, found by taking the lesser scale from the greater until both are the same.
-use Rattle.std.specs.Prelude.{◌≡◌, ◌≢◌, ◌⊎◌, ℕ, zero, suc, ◌+◌, ◌-◌, ◌*◌, ◌<◌, ◌≤◌, ℤ, pos, negsuc, ◌+ℤ◌, ◌-ℤ◌, ◌*ℤ◌, ◌<ℤ◌, unsigned_abs}
+-- Two lists that stand for the same in one basis, both without a common divisor, are the same. Lists in
+-- proportion are multiples of one list, found by taking the lesser scale from the greater until both are the
+-- same.
+use Rattle.std.specs.Prelude.{◌≡◌, ℕ, zero, suc, ◌+◌, ◌-◌, ◌<◌, ◌≤◌, ℤ, pos, negsuc, ◌+ℤ◌, ◌-ℤ◌, ◌*ℤ◌, ◌<ℤ◌, unsigned_abs}
 use Rattle.std.specs.Int.{◌∣◌}
-use Rattle.std.proofs.Common.{arith, refl, sym, ap, subst, ◌∙◌, inl, inr}
+use Rattle.std.proofs.Common.{arith, sym, ap, subst, ◌∙◌, inl, inr}
 use Rattle.std.proofs.lemmas.Int.{ints, unsigned_abs-mul}
-use Rattle.std.proofs.lemmas.Bool.{cases_lt, cases_eq}
+use Rattle.std.proofs.lemmas.Bool.{cases_lt}
 use Rattle.std.proofs.Math.Nat.{dvd-mul_right}
-use Rattle.sc_algebra.proofs.Ints.{products, mul_add, add_mul, mul_sub, mul_comm, mul_left_comm, one-mul, cancel}
+use Rattle.sc_algebra.proofs.Ints.{add_mul, mul_sub, one-mul, cancel}
 use Rattle.sc_basis.specs.Products.{IsCoprime}
-use Rattle.sc_basis.proofs.Numbers.{cancel_pos}
 
 -- v over d and w over e are s and t times one list
 pub record AreMultiplesOfOne (r : ℕ) (v w : ℕ → ℤ) (d e : ℤ) : Type 0 where

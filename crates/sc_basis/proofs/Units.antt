@@ -1,16 +1,13 @@
 -- The basis of the unit columns and its numbers.
-use Rattle.std.specs.Prelude.{◌≡◌, ℕ, ◌<◌, ◌==◌, if◌then◌else◌, None, get_or, ℤ, pos, negsuc, ◌*ℤ◌, ◌<ℤ◌}
-use Rattle.std.specs.Int.{◌∣◌}
-use Rattle.std.proofs.Common.{arith, refl, sym, ap, ◌∙◌}
+use Rattle.std.specs.Prelude.{◌≡◌, ℕ, ◌<◌, None, ℤ, pos, negsuc, ◌*ℤ◌, ◌<ℤ◌}
+use Rattle.std.proofs.Common.{arith, sym, ap, ◌∙◌}
 use Rattle.std.proofs.Math.Nat.{eq-one_of_dvd-one}
 use Rattle.std.proofs.lemmas.Int.{ints}
 use Rattle.std.proofs.lemmas.List.{get_or-replicate}
-use Rattle.std.proofs.lemmas.Bool.{cases_eq}
 use Rattle.sc_basis.specs.Products.{dot, unit, IsCoprime}
-use Rattle.sc_basis.specs.Bases.{Column, item, unit_basis, columns, entries_at, bulk_cost, fine_cost, bulk_costs, fine_costs}
-use Rattle.sc_basis.specs.Standing.{Gives, Stands, start_numbers}
-use Rattle.sc_basis.proofs.Numbers.{cancel_pos}
-use Rattle.sc_basis.proofs.ProductLaws.{unit_same, unit_other, dot-unit}
+use Rattle.sc_basis.specs.Bases.{item, unit_basis, columns, entries_at, bulk_cost, fine_cost}
+use Rattle.sc_basis.specs.Standing.{Stands, start_numbers}
+use Rattle.sc_basis.proofs.ProductLaws.{dot-unit}
 
 pub item-units : (r j : ℕ) → j < r → item (unit_basis r) j ≡ None
 item-units r j inside = get_or-replicate r j None None inside

@@ -1,4 +1,5 @@
--- The values of a basis that a lawful journal reaches. Each law is the spread of the inverse, taken at one list or another.
+-- The values of a basis that a lawful journal reaches. Each law is the spread of the inverse, taken at one list
+-- or another.
 use Rattle.std.specs.Prelude.{◌≡◌, ℕ, zero, suc, ◌+◌, ◌<◌, List, [], ◌∷◌, Option, Some, None, ℤ, pos, negsuc, ◌+ℤ◌, ◌*ℤ◌, ◌≤ℤ◌, ◌<ℤ◌}
 use Rattle.std.specs.List.{AllByRecursion}
 use Rattle.std.proofs.Common.{arith, sym, ap, subst, ◌∙◌, inl, inr}

@@ -1,5 +1,5 @@
 -- Columns, bases and their costs.
-use Rattle.std.specs.Prelude.{◌≡◌, ℕ, ◌<◌, ◌≤◌, ◌+◌, ◌==◌, if◌then◌else◌, List, [], ◌∷◌, get_or, replicate, Option, Some, None, ℤ, pos, negsuc, ◌+ℤ◌}
+use Rattle.std.specs.Prelude.{ℕ, ◌<◌, ◌≤◌, ◌+◌, ◌==◌, if◌then◌else◌, List, [], ◌∷◌, get_or, replicate, Option, Some, None, ℤ, pos, negsuc}
 use Rattle.sc_basis.specs.Products.{unit}
 
 -- the entries of a column that may differ from 0, each with its index

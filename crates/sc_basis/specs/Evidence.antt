@@ -103,8 +103,8 @@ pub record NewLeft (r : ℕ) (t : BasisNumbers) (c : Column) (l : ℕ) : Type 0 
   pub scale : ℤ
   pub reduced : IsReduced r entries scale (t.row l) (along r t c l)
 
--- the column improves, the row l leaves, and q over p is the product of another row i with the column, which isn't 0, over
--- the new row l's denominator
+-- the column improves, the row l leaves, and q over p is the product of another row i with the column, which
+-- isn't 0, over the new row l's denominator
 pub record RowStep (r : ℕ) (b : ℕ → ℤ) (t : BasisNumbers) (c : Column) (l i : ℕ) : Type 0 where
   pub improves : Improves r t c
   pub leaves : IsLeaving r b t c l
@@ -158,8 +158,8 @@ abbrev pub row_or_first : Option ℕ → ℕ
 row_or_first None = 0
 row_or_first (Some l) = l
 
--- after the journal, which is lawful, the operation at the place has the operands x and y. An entering column and a leaving row
--- are told exactly where the place needs them
+-- after the journal, which is lawful, the operation at the place has the operands x and y. An entering column
+-- and a leaving row are told exactly where the place needs them
 pub record IsEvidence (r : ℕ) (b : ℕ → ℤ) (ps : Journal) (place : Place) (entering : Option Column) (leaving : Option ℕ) (x y : ℤ) : Type 0 where
   pub lawful : IsJournal r b ps
   pub numbers : BasisNumbers

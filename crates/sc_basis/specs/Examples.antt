@@ -1,5 +1,5 @@
 -- Small bases by which the definitions are told from near misses.
-use Rattle.std.specs.Prelude.{ℕ, zero, suc, List, [], ◌∷◌, ℤ, pos, negsuc}
+use Rattle.std.specs.Prelude.{ℕ, zero, suc, [], ◌∷◌, ℤ, pos, negsuc}
 use Rattle.sc_basis.specs.Products.{at, unit}
 use Rattle.sc_basis.specs.Bases.{Column}
 use Rattle.sc_basis.specs.Standing.{BasisNumbers}

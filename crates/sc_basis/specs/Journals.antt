@@ -23,8 +23,8 @@ abbrev pub basis_after : Basis → Journal → Basis
 basis_after basis [] = basis
 basis_after basis (p ∷ ps) = basis_after (after_pivot basis p) ps
 
--- the inverse of a list of columns over one scale: row i gives 1 at the column i and 0 at the others, and each product is the
--- sum over the columns of what the row makes of v times what x makes of the column
+-- the inverse of a list of columns over one scale: row i gives 1 at the column i and 0 at the others, and each
+-- product is the sum over the columns of what the row makes of v times what x makes of the column
 pub record Inverse (r : ℕ) (column : ℕ → ℕ → ℤ) : Type 0 where
   pub scale : ℤ
   pub row : ℕ → ℕ → ℤ
@@ -32,8 +32,8 @@ pub record Inverse (r : ℕ) (column : ℕ → ℕ → ℤ) : Type 0 where
   pub rows : (i : ℕ) → i < r → Gives r column (unit i) (row i) scale
   pub spread : (x v : ℕ → ℤ) → scale *ℤ dot r x v ≡ sum_below (λ i. dot r (row i) v *ℤ dot r x (column i)) r
 
--- what a lawful journal keeps: the basis has an item for each index and an inverse, and the list of each row of the inverse,
--- its product with b followed by its entries, is above 0
+-- what a lawful journal keeps: the basis has an item for each index and an inverse, and the list of each row of
+-- the inverse, its product with b followed by its entries, is above 0
 pub record IsReached (r : ℕ) (b : ℕ → ℤ) (basis : Basis) : Type 0 where
   pub size : length basis ≡ r
   pub inverse : Inverse r (columns basis)

@@ -1,5 +1,5 @@
 -- Pivots: a column that improves enters a basis in place of one of its items.
-use Rattle.std.specs.Prelude.{◌≡◌, ◌≢◌, ◌⊎◌, ℕ, suc, ◌<◌, Option, Some, set, ℤ, pos, ◌+ℤ◌, ◌-ℤ◌, ◌*ℤ◌, ◌<ℤ◌}
+use Rattle.std.specs.Prelude.{◌≡◌, ◌≢◌, ◌⊎◌, ℕ, suc, ◌<◌, Some, set, ℤ, pos, ◌+ℤ◌, ◌-ℤ◌, ◌*ℤ◌, ◌<ℤ◌}
 use Rattle.sc_basis.specs.Products.{dot, IsCoprime, IsReduced}
 use Rattle.sc_basis.specs.Bases.{Column, entry_of, Basis}
 use Rattle.sc_basis.specs.Standing.{BasisNumbers, Stands}
@@ -14,8 +14,9 @@ Improves r t c = (dot r t.bulk (entry_of c) <ℤ pos 0) ⊎ ((dot r t.bulk (entr
 abbrev pub along : ℕ → BasisNumbers → Column → ℕ → ℤ
 along r t c i = dot r (t.row i) (entry_of c)
 
--- of the rows with a positive product with the column, l is the one whose list divided by that product is least. The list is
--- the row's product with b followed by its entries; lists are compared entry by entry, crosswise multiplied
+-- of the rows with a positive product with the column, l is the one whose list divided by that product is
+-- least. The list is the row's product with b followed by its entries; lists are compared entry by entry,
+-- crosswise multiplied
 pub record IsLeaving (r : ℕ) (b : ℕ → ℤ) (t : BasisNumbers) (c : Column) (l : ℕ) : Type 0 where
   pub inside : l < r
   pub positive : pos 0 <ℤ along r t c l
@@ -38,8 +39,8 @@ abbrev pub after_pivot : Basis → Pivot → Basis
 after_pivot basis p = set basis p.0 (Some p.1)
 
 -- ---- the numbers after a pivot, from those before it. In all of these a l is the product of the leaving row with the column
--- the leaving row is divided by its product with the column; from another row so much of it is taken away that the product
--- with the column becomes 0
+-- the leaving row is divided by its product with the column; from another row so much of it is taken away that
+-- the product with the column becomes 0
 pub record RowsPivoted (r : ℕ) (row : ℕ → ℕ → ℤ) (denominator : ℕ → ℤ) (row' : ℕ → ℕ → ℤ) (denominator' : ℕ → ℤ) (a : ℕ → ℤ) (l : ℕ) : Type 0 where
   pub left : IsReduced r (row' l) (denominator' l) (row l) (a l)
   pub others : (i : ℕ) → i < r → i ≢ l → IsReduced r (row' i) (denominator' i) (λ k. a l *ℤ row i k -ℤ a i *ℤ row l k) (a l *ℤ denominator i)
@@ -48,7 +49,8 @@ pub record RowsPivoted (r : ℕ) (row : ℕ → ℕ → ℤ) (denominator : ℕ 
 abbrev pub gap : ℕ → (ℕ → ℤ) → ℤ → ℤ → Column → ℤ
 gap r v scale cost c = scale *ℤ cost -ℤ dot r v (entry_of c)
 
--- so much of the leaving row w is added to the prices v that the gap g is closed; a is the product of w with the column
+-- so much of the leaving row w is added to the prices v that the gap g is closed; a is the product of w with
+-- the column
 abbrev pub PricesPivoted : ℕ → (ℕ → ℤ) → ℤ → (ℕ → ℤ) → ℤ → ℤ → (ℕ → ℤ) → ℤ → Type 0
 PricesPivoted r v scale v' scale' g w a = IsReduced r v' scale' (λ k. a *ℤ v k +ℤ g *ℤ w k) (a *ℤ scale)
 

@@ -34,8 +34,8 @@ SameLine r b v d w e = (k : ℕ) → k < suc r → e *ℤ line r b v k ≡ d *�
 abbrev pub LesserLine : ℕ → (ℕ → ℤ) → (ℕ → ℤ) → ℤ → (ℕ → ℤ) → ℤ → Type 0
 LesserLine r b v d w e = LexLess (suc r) (λ k. e *ℤ line r b v k) (λ k. d *ℤ line r b w k)
 
--- the rise value of t' is above that of t. The rise value is the bulk prices' product with b and then the prices, over their
--- scale, followed by the same of the fine prices, and is compared entry by entry
+-- the rise value of t' is above that of t. The rise value is the bulk prices' product with b and then the
+-- prices, over their scale, followed by the same of the fine prices, and is compared entry by entry
 abbrev pub Rises : ℕ → (ℕ → ℤ) → BasisNumbers → BasisNumbers → Type 0
 Rises r b t t' =
     LesserLine r b t.bulk t.bulk_scale t'.bulk t'.bulk_scale

@@ -1,4 +1,5 @@
-//! The inverse of a basis, which nobody computes: a pivot keeps it, and it determines all numbers that stand for the basis.
+//! The inverse of a basis, which nobody computes: a pivot keeps it, and it determines all numbers that stand
+//! for the basis.
 
 ghost use Rattle.std.specs.Prelude.{◌*ℤ◌, ◌<◌, ◌<ℤ◌, ◌≡◌, pos, suc, ℕ, ℤ};
 ghost use Rattle.sc_algebra.specs.Sums.{sum_below};
@@ -21,8 +22,8 @@ pub fn pivots_keep_the_inverse()
         Inverse r column' }
 {}
 
-/// The inverse determines what a list that stands for the columns makes of any other: of rows, entry by entry, of a line, and of
-/// lists that give any numbers.
+/// The inverse determines what a list that stands for the columns makes of any other: of rows, entry by entry,
+/// of a line, and of lists that give any numbers.
 pub fn inverses_determine()
     ensures products { (r : ℕ) (column : ℕ → ℕ → ℤ) (inv : Inverse r column) (x w : ℕ → ℤ) (d : ℤ) →
         Gives r column x w d →

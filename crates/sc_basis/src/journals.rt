@@ -8,8 +8,8 @@ ghost use Rattle.sc_basis.specs.Lines.{IsAbove, line};
 ghost use Rattle.sc_basis.specs.Pivots.{Improves, IsLawful, IsLeaving, Pivot, after_pivot};
 ghost use Rattle.sc_basis.specs.Journals.{IsJournal, IsReached, Journal, LawfulFrom, basis_after};
 
-/// Every basis that a lawful journal reaches from a right side with no negative number has an inverse, and the list of each of its
-/// rows is above 0.
+/// Every basis that a lawful journal reaches from a right side with no negative number has an inverse, and the
+/// list of each of its rows is above 0.
 pub fn journals_reach()
     ensures start { (r : ℕ) (b : ℕ → ℤ) → IsNonNegative r b → IsReached r b (unit_basis r) }
     ensures pivot { (r : ℕ) (b : ℕ → ℤ) (basis : Basis) (p : Pivot) →
@@ -20,8 +20,8 @@ pub fn journals_reach()
         IsNonNegative r b → IsJournal r b ps → IsReached r b (basis_after (unit_basis r) ps) }
 {}
 
-/// At a basis that is reached, the list of each row that stands for it is above 0, and only one list of numbers stands for
-/// it: what improves or leaves by some numbers that stand does so by all.
+/// At a basis that is reached, the list of each row that stands for it is above 0, and only one list of numbers
+/// stands for it: what improves or leaves by some numbers that stand does so by all.
 pub fn reached_bases_have_one_list_of_numbers()
     ensures above { (r : ℕ) (b : ℕ → ℤ) (basis : Basis) (t : BasisNumbers) →
         IsReached r b basis → Stands r basis t →
@@ -31,7 +31,8 @@ pub fn reached_bases_have_one_list_of_numbers()
     ensures improves { (r : ℕ) (b : ℕ → ℤ) (basis : Basis) (t t' : BasisNumbers) (c : Column) →
         IsReached r b basis → Stands r basis t → Stands r basis t' → Improves r t c → Improves r t' c }
     ensures leaves { (r : ℕ) (b : ℕ → ℤ) (basis : Basis) (t t' : BasisNumbers) (c : Column) (l : ℕ) →
-        IsReached r b basis → Stands r basis t → Stands r basis t' → IsLeaving r b t c l → IsLeaving r b t' c l }
+        IsReached r b basis → Stands r basis t → Stands r basis t' → IsLeaving r b t c l →
+        IsLeaving r b t' c l }
 {}
 
 /// A lawful journal is one followed by another from where it led to.

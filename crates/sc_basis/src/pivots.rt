@@ -11,8 +11,8 @@ pub fn units_stand()
     ensures stands { (r : ℕ) → Stands r (unit_basis r) start_numbers }
 {}
 
-/// What stands for a basis, pivoted, stands for the basis with the column in place of the row's item: rows, prices for any costs
-/// of the items, and all the numbers of a basis.
+/// What stands for a basis, pivoted, stands for the basis with the column in place of the row's item: rows,
+/// prices for any costs of the items, and all the numbers of a basis.
 pub fn pivots_keep_standing()
     ensures rows { (r : ℕ) (basis : Basis) (row : ℕ → ℕ → ℤ) (den : ℕ → ℤ) (row' : ℕ → ℕ → ℤ) (den' a : ℕ → ℤ) (c : Column) (l : ℕ) →
         length basis ≡ r → l < r →

@@ -1,12 +1,13 @@
-//! The rule by which new rows and prices are made, with small numbers on the way: a ratio in lowest terms in place of two products.
+//! The rule by which new rows and prices are made, with small numbers on the way: a ratio in lowest terms in
+//! place of two products.
 
 ghost use Rattle.std.specs.Prelude.{ℕ, ℤ, pos, ◌+ℤ◌, ◌-ℤ◌, ◌*ℤ◌, ◌<ℤ◌};
 ghost use Rattle.sc_basis.specs.Products.{IsReduced};
 ghost use Rattle.sc_basis.specs.Rules.{IsLowest};
 ghost use Rattle.sc_basis.specs.Pivots.{IsRatio};
 
-/// The new row of a row `x` over `d` whose product with the column is `a`. The leaving row is `w`, its product `al`, and `t` over
-/// `m` the leaving row over its product.
+/// The new row of a row `x` over `d` whose product with the column is `a`. The leaving row is `w`, its product
+/// `al`, and `t` over `m` the leaving row over its product.
 pub fn rows_by_rule()
     ensures reduced { (r : ℕ) (x w t y : ℕ → ℤ) (d e m al a p q : ℤ) →
         IsReduced r t m w al → IsLowest m a p q →

@@ -1,6 +1,3 @@
-use Rattle.std.specs.Prelude.{◌≡◌, ℕ, ◌<◌, length, ℤ}
-use Rattle.sc_basis.specs.Bases.{Column, entry_of, IsAscending}
-use Rattle.sc_basis.specs.Entries.{index_at, number_at}
 use Rattle.sc_basis.proofs.EntryLaws.{entry_here, product_through, product_whole}
 use Rattle.sc_basis.proofs.entries.products_by_entries.Goals as goal
 

@@ -1,4 +1,3 @@
-use Rattle.sc_basis.proofs.RisingJournals.{prefixes_rise}
 use Rattle.sc_basis.proofs.RiseValues.{one_pivot_rises}
 use Rattle.sc_basis.proofs.rises.pivots_rise.Goals as goal
 
