@@ -14,6 +14,7 @@ use Rattle.sc_basis.specs.Journals.{Inverse}
 use Rattle.sc_basis.proofs.Numbers.{cancel_pos, mul_pos}
 use Rattle.sc_basis.proofs.ProductLaws.{unit_same, unit_other, dot-turned, dot-unit, dot-combine}
 use Rattle.sc_basis.proofs.Replacing.{IsReplaced}
+use Rattle.sc_basis.proofs.Pivoting.{gives_combined}
 use Rattle.sc_basis.proofs.Units.{dot-columns-units}
 use Rattle.sc_basis.proofs.Uniqueness.{same_numbers}
 
@@ -41,36 +42,9 @@ inverse_start_row r i = refl
 abbrev pub row_after : ℕ → ℤ → (ℕ → ℕ → ℤ) → (ℕ → ℤ) → ℕ → ℕ → ℕ → ℤ
 row_after r scale row c l i k = dot r (row l) c *ℤ row i k +ℤ (scale *ℤ unit i l -ℤ dot r (row i) c) *ℤ row l k
 
-closed : (a q x p : ℤ) → a *ℤ p +ℤ (q *ℤ x -ℤ p) *ℤ a ≡ (q *ℤ a) *ℤ x
-closed a q x p = simp products (omega (arith, ints))
-
-kept : (a q x g : ℤ) → a *ℤ (q *ℤ x) +ℤ g *ℤ (q *ℤ pos 0) ≡ (q *ℤ a) *ℤ x
-kept a q x g = ap (λ (t : ℤ). a *ℤ (q *ℤ x) +ℤ t) (ap (λ (t : ℤ). g *ℤ t) (mul-zero q) ∙ mul-zero g) ∙ simp products (omega (arith, ints))
-
-gives_row : (r : ℕ) (column column' : ℕ → ℕ → ℤ) (c : ℕ → ℤ) (l i : ℕ) (inv : Inverse r column) → l < r → i < r → IsReplaced column column' c l → pos 0 <ℤ dot r (inv.row l) c → Gives r column' (unit i) (row_after r inv.scale inv.row c l i) (inv.scale *ℤ dot r (inv.row l) c)
+gives_row : (r : ℕ) (column column' : ℕ → ℕ → ℤ) (c : ℕ → ℤ) (l i : ℕ) (inv : Inverse r column) → l < r → i < r → IsReplaced column column' c l → pos 0 <ℤ dot r (inv.row l) c → Gives r column' (unit i) (row_after r inv.scale inv.row c l i) (dot r (inv.row l) c *ℤ inv.scale)
 gives_row r column column' c l i inv inside i_inside new p =
-    record {
-      positive = mul_pos inv.scale (dot r (inv.row l) c) inv.positive p;
-      product = λ j m. dot-combine r (dot r (inv.row l) c) (inv.scale *ℤ unit i l -ℤ dot r (inv.row i) c) (inv.row i) (inv.row l) (column' j) ∙ product_at j m;
-    }
-  where
-    at_here : dot r (inv.row l) c *ℤ dot r (inv.row i) (column' l) +ℤ (inv.scale *ℤ unit i l -ℤ dot r (inv.row i) c) *ℤ dot r (inv.row l) (column' l) ≡ (inv.scale *ℤ dot r (inv.row l) c) *ℤ unit i l
-    at_here =
-        ap (λ (y : ℕ → ℤ). dot r (inv.row l) c *ℤ dot r (inv.row i) y +ℤ (inv.scale *ℤ unit i l -ℤ dot r (inv.row i) c) *ℤ dot r (inv.row l) y) new.here
-        ∙ closed (dot r (inv.row l) c) inv.scale (unit i l) (dot r (inv.row i) c)
-
-    at_other : (j : ℕ) → j < r → j ≢ l → dot r (inv.row l) c *ℤ dot r (inv.row i) (column' j) +ℤ (inv.scale *ℤ unit i l -ℤ dot r (inv.row i) c) *ℤ dot r (inv.row l) (column' j) ≡ (inv.scale *ℤ dot r (inv.row l) c) *ℤ unit i j
-    at_other j m apart =
-        ap (λ (y : ℕ → ℤ). dot r (inv.row l) c *ℤ dot r (inv.row i) y +ℤ (inv.scale *ℤ unit i l -ℤ dot r (inv.row i) c) *ℤ dot r (inv.row l) y) (new.others j apart)
-        ∙ ap₂ (λ (s t : ℤ). dot r (inv.row l) c *ℤ s +ℤ (inv.scale *ℤ unit i l -ℤ dot r (inv.row i) c) *ℤ t) ((inv.rows i i_inside).product j m) ((inv.rows l inside).product j m ∙ ap (λ (t : ℤ). inv.scale *ℤ t) (unit_other l j apart))
-        ∙ kept (dot r (inv.row l) c) inv.scale (unit i j) (inv.scale *ℤ unit i l -ℤ dot r (inv.row i) c)
-
-    product_at : (j : ℕ) → j < r → dot r (inv.row l) c *ℤ dot r (inv.row i) (column' j) +ℤ (inv.scale *ℤ unit i l -ℤ dot r (inv.row i) c) *ℤ dot r (inv.row l) (column' j) ≡ (inv.scale *ℤ dot r (inv.row l) c) *ℤ unit i j
-    product_at j m =
-        elim (cases_eq j l) [
-          | inl e ↦ subst (λ (h : ℕ). dot r (inv.row l) c *ℤ dot r (inv.row i) (column' h) +ℤ (inv.scale *ℤ unit i l -ℤ dot r (inv.row i) c) *ℤ dot r (inv.row l) (column' h) ≡ (inv.scale *ℤ dot r (inv.row l) c) *ℤ unit i h) (sym e) at_here
-          | inr apart ↦ at_other j m apart
-        ]
+    gives_combined r column column' c l (unit i) (unit i) (inv.row i) inv.scale (inv.row l) inv.scale new (λ j h. refl) (inv.rows i i_inside) (inv.rows l inside) p
 
 -- the term of the leaving row, and that of another
 term_here : (a q m u x y : ℤ) → u ≡ pos 1 → (a *ℤ m +ℤ (q *ℤ u -ℤ a) *ℤ m) *ℤ y ≡ (a *ℤ (m *ℤ x) -ℤ m *ℤ (a *ℤ x)) +ℤ u *ℤ (m *ℤ (q *ℤ y))
@@ -107,7 +81,7 @@ sum_of_terms r l a m z f s x inside =
     ∙ one-mul z)
 
 -- what is left of the sum
-left_over : (a m q n z : ℤ) → (a *ℤ (q *ℤ n) -ℤ m *ℤ (q *ℤ z)) +ℤ m *ℤ (q *ℤ z) ≡ (q *ℤ a) *ℤ n
+left_over : (a m q n z : ℤ) → (a *ℤ (q *ℤ n) -ℤ m *ℤ (q *ℤ z)) +ℤ m *ℤ (q *ℤ z) ≡ (a *ℤ q) *ℤ n
 left_over a m q n z = simp products (omega (arith, ints))
 
 spread_term : (r : ℕ) (column column' : ℕ → ℕ → ℤ) (c : ℕ → ℤ) (l : ℕ) (inv : Inverse r column) (x v : ℕ → ℤ) → l < r → IsReplaced column column' c l → (i : ℕ) → dot r (row_after r inv.scale inv.row c l i) v *ℤ dot r x (column' i) ≡ (dot r (inv.row l) c *ℤ (dot r (inv.row i) v *ℤ dot r x (column i)) -ℤ dot r (inv.row l) v *ℤ (dot r (inv.row i) c *ℤ dot r x (column i))) +ℤ unit i l *ℤ (dot r (inv.row l) v *ℤ (inv.scale *ℤ dot r x c))
@@ -128,7 +102,7 @@ spread_term r column column' c l inv x v inside new i =
         ap (λ (y : ℕ → ℤ). (dot r (inv.row l) c *ℤ dot r (inv.row i) v +ℤ (inv.scale *ℤ unit i l -ℤ dot r (inv.row i) c) *ℤ dot r (inv.row l) v) *ℤ dot r x y) (new.others i apart)
         ∙ term_other (dot r (inv.row l) c) inv.scale (dot r (inv.row i) c) (dot r (inv.row l) v) (dot r (inv.row i) v) (unit i l) (dot r x (column i)) (dot r (inv.row l) v *ℤ (inv.scale *ℤ dot r x c)) (unit_other i l (λ (e : l ≡ i). apart (sym e)))
 
-spread_after : (r : ℕ) (column column' : ℕ → ℕ → ℤ) (c : ℕ → ℤ) (l : ℕ) (inv : Inverse r column) → l < r → IsReplaced column column' c l → (x v : ℕ → ℤ) → (inv.scale *ℤ dot r (inv.row l) c) *ℤ dot r x v ≡ sum_below (λ i. dot r (row_after r inv.scale inv.row c l i) v *ℤ dot r x (column' i)) r
+spread_after : (r : ℕ) (column column' : ℕ → ℕ → ℤ) (c : ℕ → ℤ) (l : ℕ) (inv : Inverse r column) → l < r → IsReplaced column column' c l → (x v : ℕ → ℤ) → (dot r (inv.row l) c *ℤ inv.scale) *ℤ dot r x v ≡ sum_below (λ i. dot r (row_after r inv.scale inv.row c l i) v *ℤ dot r x (column' i)) r
 spread_after r column column' c l inv inside new x v =
     sym
     (sum-congr (λ i. dot r (row_after r inv.scale inv.row c l i) v *ℤ dot r x (column' i)) (λ i. (dot r (inv.row l) c *ℤ (dot r (inv.row i) v *ℤ dot r x (column i)) -ℤ dot r (inv.row l) v *ℤ (dot r (inv.row i) c *ℤ dot r x (column i))) +ℤ unit i l *ℤ (dot r (inv.row l) v *ℤ (inv.scale *ℤ dot r x c))) r (λ i h. spread_term r column column' c l inv x v inside new i)
@@ -139,9 +113,9 @@ spread_after r column column' c l inv inside new x v =
 pub inverse_after : (r : ℕ) (column column' : ℕ → ℕ → ℤ) (c : ℕ → ℤ) (l : ℕ) (inv : Inverse r column) → l < r → IsReplaced column column' c l → pos 0 <ℤ dot r (inv.row l) c → Inverse r column'
 inverse_after r column column' c l inv inside new p =
     record {
-      scale = inv.scale *ℤ dot r (inv.row l) c;
+      scale = dot r (inv.row l) c *ℤ inv.scale;
       row = row_after r inv.scale inv.row c l;
-      positive = mul_pos inv.scale (dot r (inv.row l) c) inv.positive p;
+      positive = mul_pos (dot r (inv.row l) c) inv.scale p inv.positive;
       rows = λ i h. gives_row r column column' c l i inv inside h new p;
       spread = spread_after r column column' c l inv inside new;
     }
@@ -176,20 +150,18 @@ pub line_determined : (r : ℕ) (b : ℕ → ℤ) (column : ℕ → ℕ → ℤ)
 line_determined r b column inv i w d inside g zero l = row_determined r column inv i w d inside g b
 line_determined r b column inv i w d inside g (suc k) l = entry_determined r column inv i w d inside g k (omega arith)
 
--- lists that give the same are in proportion
-in_proportion : (r : ℕ) (column : ℕ → ℕ → ℤ) (inv : Inverse r column) (x v w : ℕ → ℤ) (d e : ℤ) → Gives r column x v d → Gives r column x w e → (k : ℕ) → k < r → e *ℤ v k ≡ d *ℤ w k
-in_proportion r column inv x v w d e first second k l =
-    cancel_pos inv.scale (e *ℤ v k) (d *ℤ w k) inv.positive
-    (mul_left_comm inv.scale e (v k)
-    ∙ ap (λ (t : ℤ). e *ℤ t) (entry v d first)
-    ∙ mul_left_comm e d (sum_below (λ i. dot r (inv.row i) (unit k) *ℤ x i) r)
-    ∙ sym (ap (λ (t : ℤ). d *ℤ t) (entry w e second))
-    ∙ mul_left_comm d inv.scale (w k))
-  where
-    entry : (u : ℕ → ℤ) (f : ℤ) → Gives r column x u f → inv.scale *ℤ u k ≡ f *ℤ sum_below (λ i. dot r (inv.row i) (unit k) *ℤ x i) r
-    entry u f g = ap (λ (t : ℤ). inv.scale *ℤ t) (sym (dot-unit r k u l)) ∙ determined r column inv x u f g (unit k)
+-- lists that give the same are in proportion, and so are their products with any other
+pub same_proportion : (r : ℕ) (column : ℕ → ℕ → ℤ) → Inverse r column → (x v w : ℕ → ℤ) (d e : ℤ) → Gives r column x v d → Gives r column x w e → (y : ℕ → ℤ) → e *ℤ dot r v y ≡ d *ℤ dot r w y
+same_proportion r column inv x v w d e first second y =
+    cancel_pos inv.scale (e *ℤ dot r v y) (d *ℤ dot r w y) inv.positive
+    (mul_left_comm inv.scale e (dot r v y)
+    ∙ ap (λ (z : ℤ). e *ℤ z) (determined r column inv x v d first y)
+    ∙ mul_left_comm e d (sum_below (λ i. dot r (inv.row i) y *ℤ x i) r)
+    ∙ sym (mul_left_comm inv.scale d (dot r w y) ∙ ap (λ (z : ℤ). d *ℤ z) (determined r column inv x w e second y)))
 
 -- and the same, without a common divisor
 pub unique : (r : ℕ) (column : ℕ → ℕ → ℤ) (inv : Inverse r column) (x v w : ℕ → ℤ) (d e : ℤ) → Gives r column x v d → Gives r column x w e → IsCoprime r v d → IsCoprime r w e → (d ≡ e) × ((k : ℕ) → k < r → v k ≡ w k)
 unique r column inv x v w d e first second v_coprime w_coprime =
-    same_numbers r v w d e first.positive second.positive (in_proportion r column inv x v w d e first second) v_coprime w_coprime
+    same_numbers r v w d e first.positive second.positive
+    (λ k l. ap (λ (z : ℤ). e *ℤ z) (sym (dot-unit r k v l)) ∙ same_proportion r column inv x v w d e first second (unit k) ∙ ap (λ (z : ℤ). d *ℤ z) (dot-unit r k w l))
+    v_coprime w_coprime

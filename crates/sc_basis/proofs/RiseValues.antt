@@ -3,7 +3,7 @@ use Rattle.std.specs.Prelude.{◌≡◌, ◌≢◌, ℕ, zero, suc, ◌<◌, len
 use Rattle.std.proofs.Common.{arith, sym, ap, ap₂, subst, ◌∙◌, inl, inr}
 use Rattle.std.proofs.Math.Path.{subst₂}
 use Rattle.std.proofs.lemmas.Int.{ints}
-use Rattle.sc_algebra.proofs.Ints.{products, mul_left_comm, mul_assoc, mul-zero, zero-mul}
+use Rattle.sc_algebra.proofs.Ints.{products, mul_assoc, mul-zero, zero-mul}
 use Rattle.sc_basis.specs.Products.{dot, unit}
 use Rattle.sc_basis.specs.Bases.{Column, entry_of, Basis, columns, bulk_cost, fine_cost, bulk_costs, fine_costs}
 use Rattle.sc_basis.specs.Standing.{Gives, BasisNumbers, Stands}
@@ -15,18 +15,10 @@ use Rattle.sc_basis.proofs.Numbers.{cancel_pos, mul_pos, lt_of_mul}
 use Rattle.sc_basis.proofs.ProductLaws.{dot-unit, dot-combine}
 use Rattle.sc_basis.proofs.Replacing.{IsReplaced, replaced, item-here, item-other}
 use Rattle.sc_basis.proofs.Pivoting.{gives_combined}
-use Rattle.sc_basis.proofs.InverseLaws.{determined, line_determined}
+use Rattle.sc_basis.proofs.InverseLaws.{line_determined, same_proportion}
 use Rattle.sc_basis.proofs.LexOrder.{lex_map, lex_scale, lex_unscale}
 
 -- ---- one list of prices
--- two lists that give the same numbers are in proportion
-pub same_proportion : (r : ℕ) (column : ℕ → ℕ → ℤ) → Inverse r column → (x v w : ℕ → ℤ) (d e : ℤ) → Gives r column x v d → Gives r column x w e → (y : ℕ → ℤ)
-    → e *ℤ dot r v y ≡ d *ℤ dot r w y
-same_proportion r column inv x v w d e first second y =
-    cancel_pos inv.scale (e *ℤ dot r v y) (d *ℤ dot r w y) inv.positive
-    (mul_left_comm inv.scale e (dot r v y) ∙ ap (λ (z : ℤ). e *ℤ z) (determined r column inv x v d first y) ∙ mul_left_comm e d _
-    ∙ sym (mul_left_comm inv.scale d (dot r w y) ∙ ap (λ (z : ℤ). d *ℤ z) (determined r column inv x w e second y)))
-
 -- a relation of all products is one of the lines
 lines_by_products : (r : ℕ) (b u v w : ℕ → ℤ) (p q s : ℤ) → ((y : ℕ → ℤ) → p *ℤ dot r u y ≡ q *ℤ dot r v y +ℤ s *ℤ dot r w y)
     → (k : ℕ) → k < suc r → p *ℤ line r b u k ≡ q *ℤ line r b v k +ℤ s *ℤ line r b w k

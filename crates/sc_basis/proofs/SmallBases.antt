@@ -2,10 +2,10 @@
 use Rattle.std.specs.Prelude.{◌≡◌, ◌≢◌, ℕ, zero, suc, ◌<◌, true, false, None, Some, [], ℤ, pos, ◌*ℤ◌, ◌≤ℤ◌, ◌<ℤ◌, unsigned_abs}
 use Rattle.std.specs.Int.{◌∣◌}
 use Rattle.std.proofs.Common.{arith, refl, ap, ◌∙◌, inl}
-use Rattle.std.proofs.Math.Nat.{eq-one_of_dvd-one, dvd-mul_right}
+use Rattle.std.proofs.Math.Nat.{dvd-mul_right}
 use Rattle.std.proofs.lemmas.Int.{ints}
 use Rattle.sc_algebra.proofs.Ints.{one-mul, zero-mul}
-use Rattle.sc_basis.specs.Products.{dot, unit, IsCoprime, IsNonNegative}
+use Rattle.sc_basis.specs.Products.{dot, unit, IsNonNegative}
 use Rattle.sc_basis.specs.Bases.{Basis, unit_basis, columns, bulk_costs, fine_costs}
 use Rattle.sc_basis.specs.Standing.{Gives, Stands, start_numbers}
 use Rattle.sc_basis.specs.Lines.{LexLess, line}
@@ -13,7 +13,7 @@ use Rattle.sc_basis.specs.Pivots.{along, IsLeaving}
 use Rattle.sc_basis.specs.Journals.{IsJournal, basis_after}
 use Rattle.sc_basis.specs.Examples.{one_word, square, square_enters, square_numbers, doubled_numbers, wrong_scale_numbers, two_words, two_starts, two_starts_enter, two_starts_too_early, two_starts_numbers}
 use Rattle.sc_basis.specs.Evidence.{RowStep, Operands, IsEvidence, row_difference}
-use Rattle.sc_basis.proofs.Units.{units}
+use Rattle.sc_basis.proofs.Units.{coprime_to_one, units}
 use Rattle.sc_basis.proofs.JournalLaws.{reached_start, standing_unique}
 use Rattle.sc_basis.proofs.SameNumbers.{leaves_by_all}
 
@@ -23,9 +23,6 @@ below_three P a b c zero l = a
 below_three P a b c (suc zero) l = b
 below_three P a b c (suc (suc zero)) l = c
 below_three P a b c (suc (suc (suc k))) l = absurd (omega arith)
-
-coprime_to_one : (r : ℕ) (v : ℕ → ℤ) → IsCoprime r v (pos 1)
-coprime_to_one r v g divides all = eq-one_of_dvd-one divides
 
 positive : pos 0 <ℤ pos 1
 positive = omega (arith, ints)

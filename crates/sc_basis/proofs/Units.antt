@@ -18,7 +18,7 @@ columns-units r j k inside = ap (λ o. entries_at j o k) (item-units r j inside)
 pub dot-columns-units : (r j : ℕ) (x : ℕ → ℤ) → j < r → dot r x (columns (unit_basis r) j) ≡ x j
 dot-columns-units r j x inside = ap (λ o. dot r x (entries_at j o)) (item-units r j inside) ∙ dot-unit r j x inside
 
-coprime_to_one : (r : ℕ) (v : ℕ → ℤ) → IsCoprime r v (pos 1)
+pub coprime_to_one : (r : ℕ) (v : ℕ → ℤ) → IsCoprime r v (pos 1)
 coprime_to_one r v g divides all = eq-one_of_dvd-one divides
 
 units_positive : pos 0 <ℤ pos 1
