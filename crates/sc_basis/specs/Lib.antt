@@ -3,6 +3,7 @@ pub mod Bases
 pub mod Standing
 pub mod Lines
 pub mod Pivots
+pub mod LeastRows
 pub mod Rules
 pub mod Divisors
 pub mod Entries
