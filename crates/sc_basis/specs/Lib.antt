@@ -2,8 +2,8 @@ pub mod Products
 pub mod Bases
 pub mod Standing
 pub mod Lines
-pub mod Pivots
 pub mod LeastRows
+pub mod Pivots
 pub mod Rules
 pub mod Divisors
 pub mod Entries

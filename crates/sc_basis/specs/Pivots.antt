@@ -1,9 +1,9 @@
 -- Pivots: a column that improves enters a basis in place of one of its items.
-use Rattle.std.specs.Prelude.{◌≡◌, ◌≢◌, ◌⊎◌, ℕ, suc, ◌<◌, Some, set, ℤ, pos, ◌+ℤ◌, ◌-ℤ◌, ◌*ℤ◌, ◌<ℤ◌}
+use Rattle.std.specs.Prelude.{◌≡◌, ◌≢◌, ◌⊎◌, ℕ, ◌<◌, Some, set, ℤ, pos, ◌+ℤ◌, ◌-ℤ◌, ◌*ℤ◌, ◌<ℤ◌}
 use Rattle.sc_basis.specs.Products.{dot, IsCoprime, IsReduced}
 use Rattle.sc_basis.specs.Bases.{Column, entry_of, Basis}
 use Rattle.sc_basis.specs.Standing.{BasisNumbers, Stands}
-use Rattle.sc_basis.specs.Lines.{LexLess, line}
+use Rattle.sc_basis.specs.LeastRows.{IsLeastRow}
 
 -- ---- what enters and what leaves
 -- the pair of the column's bulk and fine price is below 0 and the fine scale, in the order of pairs
@@ -14,14 +14,10 @@ Improves r t c = (dot r t.bulk (entry_of c) <ℤ pos 0) ⊎ ((dot r t.bulk (entr
 abbrev pub along : ℕ → BasisNumbers → Column → ℕ → ℤ
 along r t c i = dot r (t.row i) (entry_of c)
 
--- of the rows with a positive product with the column, l is the one whose list divided by that product is
--- least. The list is the row's product with b followed by its entries; lists are compared entry by entry,
--- crosswise multiplied
-pub record IsLeaving (r : ℕ) (b : ℕ → ℤ) (t : BasisNumbers) (c : Column) (l : ℕ) : Type 0 where
-  pub inside : l < r
-  pub positive : pos 0 <ℤ along r t c l
-  pub least : (i : ℕ) → i < r → i ≢ l → pos 0 <ℤ along r t c i →
-      LexLess (suc r) (λ k. along r t c i *ℤ line r b (t.row l) k) (λ k. along r t c l *ℤ line r b (t.row i) k)
+-- of the rows with a positive product with the column, l is the one whose list, divided by that product, comes
+-- first
+abbrev pub IsLeaving : ℕ → (ℕ → ℤ) → BasisNumbers → Column → ℕ → Type 0
+IsLeaving r b t c l = IsLeastRow r b (along r t c) t.row r l
 
 -- the row that leaves and the column that enters
 abbrev pub Pivot : Type 0
