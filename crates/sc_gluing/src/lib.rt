@@ -11,3 +11,6 @@ mod sides;
 pub use laying::Laid;
 pub use matching::partners_of;
 pub use sides::glue_laid;
+
+#[cfg(test)]
+mod tests;
