@@ -9,3 +9,7 @@ pub mod KindLaws
 pub mod Sizes
 pub mod PartSizes
 pub mod SideLists
+pub mod SeedSides
+pub mod SeedLaws
+pub mod LetterCodes
+pub mod WordCopies

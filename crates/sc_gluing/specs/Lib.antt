@@ -4,3 +4,4 @@ pub mod Seeds
 pub mod Laying
 pub mod Matching
 pub mod Sides
+pub mod Letters

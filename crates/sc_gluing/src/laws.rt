@@ -4,11 +4,12 @@ ghost use Rattle.std.specs.Prelude.{◌≡◌, ℕ, ◌*◌, ◌<◌, List, leng
 ghost use Rattle.std.specs.List.{AllByRecursion};
 ghost use Rattle.sc_algebra.specs.Sums.{sum_below};
 ghost use Rattle.sc_algebra.specs.Permutations.{IsPermutation};
-ghost use Rattle.sc_theory.specs.Chains.{Chain, weighted_length};
+ghost use Rattle.sc_theory.specs.Chains.{Chain, IsChain, IsBalanced, weighted_length};
 ghost use Rattle.sc_theory.specs.Fatgraphs.{Sides, vertices, IsFatgraph};
 ghost use Rattle.sc_theory.specs.Walks.{IsStep, IsClosedWalk, walks_total};
 ghost use Rattle.sc_gluing.specs.Cycles.{Parts, copies_of, labels_of, at, after, AreCycles};
 ghost use Rattle.sc_gluing.specs.Gluing.{IsGlued, AreBalanced};
+ghost use Rattle.sc_gluing.specs.Seeds.{IsSeed};
 
 /// The side after a side permutes the sides. A sum over the sides of a price of the step that begins there is the total of
 /// the cycles, and along closed walks each of these is a step.
@@ -46,4 +47,9 @@ pub fn copies_become_vertices()
 pub fn copies_have_the_sides()
     ensures copies { (c : Chain) (n : ℕ) (parts : Parts) → AreBalanced c n parts → length (labels_of (copies_of parts)) ≡ n * weighted_length c }
     ensures cycles { (c : Chain) (n : ℕ) (cycles : List (List ℕ)) → AreCycles c n cycles → length (labels_of cycles) ≡ n * weighted_length c }
+{}
+
+/// The seed surface of a balanced chain is a labelled fatgraph over one copy of it.
+pub fn seed_surfaces_are_fatgraphs()
+    ensures { (c : Chain) (g : Sides) → IsChain c → IsBalanced c → IsSeed c g → IsFatgraph c 1 g }
 {}

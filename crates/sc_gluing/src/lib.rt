@@ -6,10 +6,12 @@ pub mod examples;
 pub mod laws;
 mod laying;
 mod matching;
+mod seeds;
 mod sides;
 
 pub use laying::Laid;
 pub use matching::partners_of;
+pub use seeds::seed_sides;
 pub use sides::glue_laid;
 
 #[cfg(test)]
