@@ -365,3 +365,22 @@ fn what_was_read_is_printed_again(rt: HostRuntime) -> Result<(), AllocError> {
     }
     Ok(())
 }
+
+#[test]
+fn the_seed_surface_goes_round_the_words(rt: HostRuntime) -> Result<(), AllocError> {
+    let alloc = rt.alloc();
+    let texts: [&[u8]; 4] = [
+        TEXT_A,
+        b"scallop surface 1\nwords 0\ncopies 1\nsides 0\nend\n",
+        b"scallop surface 1\nwords 2\nword 2 a\nword 2 A\ncopies 1\nsides 4\nside 0 2 0\nside 0 3 1\nside 1 0 2\nside 1 1 3\nend\n",
+        b"scallop surface 1\nwords 2\nword 2 ab\nword 2 AB\ncopies 1\nsides 8\nside 0 4 1\nside 1 5 0\nside 0 6 3\nside 1 7 2\nside 2 0 5\nside 3 1 4\nside 2 2 7\nside 3 3 6\nend\n",
+    ];
+    for text in texts {
+        let chain = read_surface(alloc, text).expect(&rt, "a text").chain;
+        assert!(rt; chain.first_unbalanced().is_none());
+        let mut out = Vec::new(alloc);
+        print_surface(&seed_surface(alloc, &chain)?, &mut out)?;
+        assert_eq!(rt; out.as_slice(), text);
+    }
+    Ok(())
+}
