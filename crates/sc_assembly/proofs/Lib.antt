@@ -1,0 +1,6 @@
+pub mod Cycling
+pub mod Splitting
+pub mod SeedColumns
+pub mod Wholes
+pub mod Sizes
+pub mod PartLoops
