@@ -1,31 +1,25 @@
 -- The numbers of letters at the sides along the words: places of opposite numbers matched in their order are the sides' mates.
-use Rattle.std.proofs.Common.{◌≡◌, ◌≢◌, ℕ, zero, suc, ◌+◌, ◌*◌, ◌^◌, ◌<◌, ◌≤◌, Bool, true, false, not, ◌&&◌, eqb, cond, List, [], map, length, get_or, take, ℤ, pos, ◌*ℤ◌, inl, inr, arith, refl, sym, ap, ap₂, subst, ◌∙◌}
-use Rattle.std.specs.List.{range_with_len}
-use Rattle.std.proofs.lemmas.Bool.{cases_eq, cases_lt, cases_Bool, eq-eqb, ne_eqb}
+use Rattle.std.proofs.Common.{◌≡◌, ℕ, ◌+◌, ◌*◌, ◌<◌, ◌≤◌, Bool, true, false, not, ◌&&◌, eqb, cond, List, map, length, get_or, inl, inr, arith, refl, sym, ap, ap₂, subst, ◌∙◌}
+use Rattle.std.proofs.lemmas.Bool.{cases_Bool, eq-eqb, ne_eqb}
 use Rattle.std.proofs.lemmas.List.{get_or-map, length-map}
-use Rattle.std.proofs.lemmas.List.FromFn.{length-range_with_len, length-map-range_with_len, get_or-map-range_with_len}
 use Rattle.std.proofs.lemmas.Grind.{same_number_lists}
-use Rattle.sc_algebra.specs.Sums.{sum_below, count_below}
-use Rattle.sc_algebra.proofs.Ints.{same-pos, mul-one}
-use Rattle.sc_algebra.proofs.Sums.{sum-congr, sum-const, count-congr}
+use Rattle.sc_algebra.specs.Sums.{count_below}
+use Rattle.sc_algebra.proofs.Sums.{count-congr}
 use Rattle.sc_theory.specs.declared.Letter.{Letter}
 use Rattle.sc_theory.specs.declared.Side.{Side}
 use Rattle.sc_theory.specs.Words.{inverse_letter, same_sign}
-use Rattle.sc_theory.specs.Chains.{Chain, IsBalanced, weight, word, positions, weighted_length, first, letter}
-use Rattle.sc_theory.specs.Fatgraphs.{Sides, no_side, label, mate, next}
-use Rattle.sc_theory.proofs.ChainLaws.{place_inside}
-use Rattle.sc_theory.proofs.ChainSums.{weighted_length_sum}
+use Rattle.sc_theory.specs.Chains.{Chain, IsBalanced, positions, letter}
+use Rattle.sc_theory.specs.Fatgraphs.{Sides, no_side, label}
 use Rattle.sc_theory.proofs.WordLaws.{same_letters}
 use Rattle.sc_chain.specs.Faults.{IsSmallChain}
-use Rattle.sc_gluing.specs.Cycles.{copies_of, labels_of, at, after}
+use Rattle.sc_gluing.specs.Cycles.{labels_of, at}
 use Rattle.sc_gluing.specs.Laying.{AreLaid}
 use Rattle.sc_gluing.specs.Letters.{code, AreCodes, AreInverseCodes, AreLetterMates, AreSeedMates, AreListed}
 use Rattle.sc_gluing.specs.Matching.{so_far, ArePartners, AreMatchable}
-use Rattle.sc_gluing.specs.Seeds.{positions_of, word_parts, word_cycles, same_letter, letter_rank, IsSeed}
+use Rattle.sc_gluing.specs.Seeds.{word_cycles, same_letter, letter_rank, IsSeed}
 use Rattle.sc_gluing.proofs.CycleLaws.{size}
-use Rattle.sc_gluing.proofs.PartSizes.{copies_fit}
 use Rattle.sc_gluing.proofs.Ranks.{rank_below}
-use Rattle.sc_gluing.proofs.SeedSides.{side_letter, having, same_letter_itself, letters_from_same, as_many_inverse, one_mate, word_sides, sum_of_words}
+use Rattle.sc_gluing.proofs.SeedSides.{side_letter, having, same_letter_itself, letters_from_same, as_many_inverse, one_mate, word_sides}
 
 -- ---- numbers of letters
 code_parts : (a b : ℕ) (p q : Bool) → 2 * a + cond p 1 0 ≡ 2 * b + cond q 1 0 → (a ≡ b) × (p ≡ q)

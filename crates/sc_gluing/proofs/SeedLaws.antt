@@ -1,23 +1,22 @@
 -- The seed surface of a balanced chain is a labelled fatgraph over one copy.
-use Rattle.std.proofs.Common.{◌≡◌, ◌≢◌, ℕ, zero, suc, ◌+◌, ◌*◌, ◌<◌, Bool, eqb, if◌then◌else◌, [], ◌∷◌, List, map, length, get_or, ℤ, pos, ◌*ℤ◌, inl, inr, arith, refl, sym, ap, ap₂, subst, ◌∙◌}
-use Rattle.std.proofs.lemmas.Int.{ints}
-use Rattle.std.proofs.lemmas.Bool.{cases_lt, eq-eqb, ne_eqb, cond-true, cond-false}
+use Rattle.std.proofs.Common.{◌≡◌, ◌≢◌, ℕ, ◌+◌, ◌<◌, eqb, if◌then◌else◌, [], ◌∷◌, List, length, get_or, ℤ, pos, ◌*ℤ◌, arith, refl, sym, ap, subst, ◌∙◌}
+use Rattle.std.proofs.lemmas.Bool.{eq-eqb, ne_eqb, cond-true, cond-false}
 use Rattle.std.proofs.lemmas.List.{length-map}
 use Rattle.std.proofs.Math.ListN.{get_or-map}
 use Rattle.sc_algebra.specs.Sums.{sum_below, count_below}
 use Rattle.sc_algebra.proofs.Ints.{same-pos, mul-one, mul-zero}
-use Rattle.sc_algebra.proofs.Sums.{sum-congr, sum-single, sum_zero_each, count-sum, count-congr}
+use Rattle.sc_algebra.proofs.Sums.{sum-single, sum_zero_each, count-sum, count-congr}
 use Rattle.sc_theory.specs.declared.Side.{Side}
 use Rattle.sc_theory.specs.Words.{inverse_letter}
 use Rattle.sc_theory.specs.Chains.{Chain, IsChain, IsBalanced, word, weight, positions, first, word_of, letter, succ}
-use Rattle.sc_theory.specs.Fatgraphs.{Sides, no_side, label, mate, next, sides_at, quota, IsFatgraph}
+use Rattle.sc_theory.specs.Fatgraphs.{Sides, no_side, label, mate, IsFatgraph}
 use Rattle.sc_theory.proofs.ChainLaws.{word_of_place}
-use Rattle.sc_gluing.specs.Cycles.{at, after, labels_of}
+use Rattle.sc_gluing.specs.Cycles.{at, after}
 use Rattle.sc_gluing.specs.Letters.{AreLetterMates}
-use Rattle.sc_gluing.specs.Seeds.{word_cycles, letter_rank, IsSeed}
+use Rattle.sc_gluing.specs.Seeds.{word_cycles, IsSeed}
 use Rattle.sc_gluing.proofs.CycleLaws.{size, after_inside, after_apart}
 use Rattle.sc_gluing.proofs.StepCounts.{no_own_inverse}
-use Rattle.sc_gluing.proofs.SeedSides.{side_letter, sides, HasMates, mates, mates_return, word_sides, sum_of_words}
+use Rattle.sc_gluing.proofs.SeedSides.{sides, HasMates, mates, mates_return, word_sides, sum_of_words}
 
 -- ---- the first position of a word is the label of as many sides as the weight says
 some_letter : (c : Chain) (w : ℕ) → word c w ≢ [] → 0 < length (word c w)

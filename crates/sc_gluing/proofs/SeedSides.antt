@@ -1,15 +1,15 @@
 -- The sides along the copies of the words of a balanced chain: each follows the one before it round its word, and each has one
 -- mate, the side with the inverse letter that stands at the same place among those with its letter.
-use Rattle.std.proofs.Common.{◌≡◌, ◌≢◌, ℕ, zero, suc, ◌+◌, ◌*◌, ◌<◌, ◌≤◌, Bool, true, false, not, ◌&&◌, eqb, if◌then◌else◌, List, [], ◌∷◌, ◌++◌, map, length, get_or, replicate, ℤ, pos, ◌+ℤ◌, ◌-ℤ◌, ◌*ℤ◌, inl, inr, arith, refl, sym, ap, ap₂, subst, subst₂, ◌∙◌}
-use Rattle.std.specs.List.{AllByRecursion, flat_map, range_with_len}
+use Rattle.std.proofs.Common.{◌≡◌, ℕ, zero, suc, ◌+◌, ◌<◌, Bool, true, false, not, ◌&&◌, eqb, if◌then◌else◌, List, [], ◌∷◌, ◌++◌, map, length, get_or, replicate, ℤ, pos, ◌+ℤ◌, ◌-ℤ◌, ◌*ℤ◌, inl, inr, arith, refl, sym, ap, ap₂, subst, subst₂, ◌∙◌}
+use Rattle.std.specs.List.{AllByRecursion, range_with_len}
 use Rattle.std.proofs.lemmas.Int.{ints}
 use Rattle.std.proofs.lemmas.Bool.{cases_lt, eq-eqb, eqb-true, and_from}
 use Rattle.std.proofs.lemmas.List.FromFn.{length-range_with_len, get_or-range_with_len}
 use Rattle.sc_algebra.specs.Sums.{sum_below, count_below}
-use Rattle.sc_algebra.proofs.Ints.{same-pos, zero-mul, suc-mul}
+use Rattle.sc_algebra.proofs.Ints.{zero-mul, suc-mul}
 use Rattle.sc_algebra.proofs.Sums.{sum-congr, count-congr, count-sum, sum-sub}
 use Rattle.sc_theory.specs.declared.Letter.{Letter}
-use Rattle.sc_theory.specs.Words.{inverse_letter, same_sign, is_positive, is_negative, total}
+use Rattle.sc_theory.specs.Words.{inverse_letter, same_sign, is_positive, is_negative}
 use Rattle.sc_theory.specs.Chains.{Chain, IsBalanced, word, weight, positions, first, letter, succ, chain_total}
 use Rattle.sc_theory.proofs.ChainLaws.{place_inside, succ_within, succ_last, letter_place}
 use Rattle.sc_theory.proofs.ChainSums.{sign, total_sum, chain_total_sum}

@@ -1,5 +1,5 @@
 -- The copies of the words laid one behind another, word by word.
-use Rattle.std.proofs.Common.{◌≡◌, ℕ, zero, suc, ◌+◌, ◌*◌, ◌^◌, ◌<◌, ◌≤◌, List, [], ◌++◌, length, get_or, take, replicate, ◌∷◌, ℤ, pos, ◌*ℤ◌, inl, inr, arith, refl, sym, ap, ap₂, subst, ◌∙◌}
+use Rattle.std.proofs.Common.{◌≡◌, ℕ, zero, suc, ◌+◌, ◌*◌, ◌^◌, ◌<◌, ◌≤◌, List, [], ◌++◌, length, get_or, take, replicate, ◌∷◌, ℤ, pos, ◌*ℤ◌, inl, inr, arith, refl, sym, ap, subst, ◌∙◌}
 use Rattle.std.specs.List.{range_with_len}
 use Rattle.std.proofs.lemmas.Bool.{cases_lt}
 use Rattle.std.proofs.lemmas.List.{take_all}
@@ -11,7 +11,7 @@ use Rattle.sc_theory.specs.Chains.{Chain, weight, word, positions, weighted_leng
 use Rattle.sc_theory.proofs.ChainLaws.{place_inside}
 use Rattle.sc_theory.proofs.ChainSums.{weighted_length_sum}
 use Rattle.sc_chain.specs.Faults.{IsSmallChain}
-use Rattle.sc_gluing.specs.Cycles.{Parts, copies_of, labels_of}
+use Rattle.sc_gluing.specs.Cycles.{Parts, copies_of}
 use Rattle.sc_gluing.specs.Laying.{AreLaid, LaysBehind}
 use Rattle.sc_gluing.specs.Seeds.{positions_of, word_parts, word_cycles}
 use Rattle.sc_gluing.proofs.CycleLaws.{size}

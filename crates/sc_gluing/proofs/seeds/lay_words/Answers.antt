@@ -1,5 +1,4 @@
-use Rattle.std.proofs.Common.{◌≡◌, ℕ, ◌+◌, ◌*◌, ◌<◌, ◌≤◌, List, length, take, vec_len, arith, rules, sym, ap, ap₂, subst, subst₂, ◌∙◌}
-use Rattle.sc_chain.specs.Faults.{IsSmallChain}
+use Rattle.std.proofs.Common.{◌≡◌, ℕ, ◌*◌, ◌<◌, List, length, take, arith, ap, ap₂, subst₂, ◌∙◌}
 use Rattle.sc_theory.specs.Chains.{weight}
 use Rattle.sc_gluing.specs.Cycles.{copies_of, labels_of}
 use Rattle.sc_gluing.specs.Laying.{AreLaid, LaysBehind}

@@ -1,4 +1,4 @@
-use Rattle.std.proofs.Common.{◌≡◌, ℕ, List, sym, subst₂}
+use Rattle.std.proofs.Common.{ℕ, List, subst₂}
 use Rattle.std.proofs.lemmas.Result.{IfOk-weaker}
 use Rattle.sc_gluing.specs.Matching.{ArePartners}
 use Rattle.sc_gluing.proofs.LetterCodes.{labels_inside, letters_matchable, partners_are_mates}

@@ -1,10 +1,9 @@
-use Rattle.std.proofs.Common.{◌≡◌, ℕ, ◌<◌, ◌≤◌, ◌^◌, List, length, arith, sym, subst, subst₂}
+use Rattle.std.proofs.Common.{ℕ, ◌<◌, ◌^◌, List, length, arith, sym, subst, subst₂}
 use Rattle.std.proofs.lemmas.Result.{IfOk-weaker}
-use Rattle.sc_theory.specs.Fatgraphs.{IsFatgraph}
 use Rattle.sc_theory.proofs.FatgraphLaws.{length_is}
 use Rattle.sc_gluing.specs.Laying.{AreLaid}
-use Rattle.sc_gluing.specs.Letters.{AreSeedMates, AreListed}
-use Rattle.sc_gluing.specs.Seeds.{word_cycles, IsSeed}
+use Rattle.sc_gluing.specs.Letters.{AreSeedMates}
+use Rattle.sc_gluing.specs.Seeds.{word_cycles}
 use Rattle.sc_gluing.proofs.LetterCodes.{listed_seed}
 use Rattle.sc_gluing.proofs.SeedLaws.{seed_fatgraph}
 use Rattle.sc_gluing.proofs.seeds.seed_sides.Goals as goal
