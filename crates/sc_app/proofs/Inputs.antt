@@ -11,8 +11,8 @@ use Rattle.sc_text.proofs.Faultless.{faultless_text}
 use Rattle.sc_text.proofs.OneText.{one_text, SameSurface}
 use Rattle.sc_certificate.specs.Certificates.{Certificate, certificate_text, certificate_plan}
 use Rattle.sc_certificate.proofs.TextLaws.{text_is_faultless, text_is_of_one}
-use Rattle.sc_app.specs.Surface.{IsTextOf, Says, is_headed_as_certificate, plan_for}
-use Rattle.sc_app.specs.Check.{IsCertificateText}
+use Rattle.sc_app.specs.declared.said.Heading.TheVariants.{CertificateText, SurfaceText}
+use Rattle.sc_app.specs.Said.{IsCertificateText, IsTextOf, Says, is_headed_as_certificate, plan_of, plan_for}
 
 pub certificate_faultless : (input : List ℕ) (v : Certificate) → IsCertificateText input v → IsFaultless certificate_plan input
 certificate_faultless input v t = subst (IsFaultless certificate_plan) (sym t.text) (text_is_faultless v t.in_range)
@@ -30,10 +30,12 @@ unfolding is_headed_as_certificate
 certificate_heading v = refl
 
 plan_of_surface : (input : List ℕ) (c : Chain) (n : ℕ) (g : Sides) → IsTextOf input c n g → plan_for input ≡ surface_table
-plan_of_surface input c n g t = cond-false (is_headed_as_certificate input) certificate_plan surface_table (ap is_headed_as_certificate t.text ∙ surface_heading c n g)
+plan_of_surface input c n g t =
+    ap plan_of (cond-false (is_headed_as_certificate input) CertificateText SurfaceText (ap is_headed_as_certificate t.text ∙ surface_heading c n g))
 
 plan_of_certificate : (input : List ℕ) (v : Certificate) → IsCertificateText input v → plan_for input ≡ certificate_plan
-plan_of_certificate input v t = cond-true (is_headed_as_certificate input) certificate_plan surface_table (ap is_headed_as_certificate t.text ∙ certificate_heading v)
+plan_of_certificate input v t =
+    ap plan_of (cond-true (is_headed_as_certificate input) CertificateText SurfaceText (ap is_headed_as_certificate t.text ∙ certificate_heading v))
 
 -- ---- surfaces
 

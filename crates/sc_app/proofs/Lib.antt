@@ -1,7 +1,12 @@
 pub mod Taken
-pub mod Serving
+pub mod Forms
 pub mod Reports
 pub mod Inputs
+pub mod Chains
 pub mod OneText
 pub mod OneAnswer
+pub mod Accepted
+pub mod Serving
+pub mod Calls
 pub mod Least
+pub mod SomeAnswer

@@ -1,11 +1,10 @@
 -- An input has one answer.
-use Rattle.std.proofs.Common.{◌≡◌, ℕ, ◌⊎◌, inl, inr, List, [], length, get_or, ℤ, IsSome, is_some, None, Some, IfSome, Option, refl, ap, ap₂, ◌∙◌, subst, sym, arith}
-use Rattle.std.proofs.lemmas.Bool.{cases_lt, false≢true}
+use Rattle.std.proofs.Common.{◌≡◌, ℕ, ◌⊎◌, inl, inr, List, [], ℤ, refl, ap, ap₂, ◌∙◌, subst, sym, arith}
 use Rattle.sc_theory.specs.Chains.{Chain, IsBalanced}
 use Rattle.sc_theory.specs.Fatgraphs.{Sides, IsFatgraph}
 use Rattle.sc_chain.specs.declared.fault.Kind.{Kind}
 use Rattle.sc_chain.specs.declared.lines.RawLine.{RawLine}
-use Rattle.sc_chain.specs.ChainText.{IsChainText, IsFirstMalformed, line_case, line_at, line_kind}
+use Rattle.sc_chain.specs.ChainText.{IsChainText, IsFirstMalformed}
 use Rattle.sc_chain.specs.Balance.{IsFirstUnbalanced}
 use Rattle.sc_reduce.specs.Lines.{chain_of, IsWithin, HasManyWords, HasManyPositions}
 use Rattle.sc_text.specs.Faults.{IsFirstFault}
@@ -16,22 +15,27 @@ use Rattle.sc_fatgraph.specs.Flaws.{IsFirstFlaw}
 use Rattle.sc_fatgraph.proofs.FlawLaws.{fatgraph_has_none, first_flaw_alone}
 use Rattle.sc_certificate.specs.Certificates.{Certificate, certificate_plan}
 use Rattle.sc_prices.specs.declared.verdict.Condition.{Condition}
-use Rattle.sc_prices.specs.declared.verdict.Condition.TheVariants.{Flaw, Value, Table, NotTight}
+use Rattle.sc_prices.specs.declared.verdict.Condition.TheVariants.{Flaw}
 use Rattle.sc_prices.specs.Conditions.{AllHold, IsFirstFailing}
 use Rattle.sc_prices.proofs.Failing.{one_failing, none_failing}
 use Rattle.sc_app.specs.declared.command.Command.{Command}
 use Rattle.sc_app.specs.declared.command.Command.TheVariants.{Surface, Check, Scl}
 use Rattle.sc_app.specs.declared.status.Status.{Status}
-use Rattle.sc_app.specs.declared.status.Status.TheVariants.{Done, Usage, Malformed, Large, ReadFault, WriteFault, Memory, Rejected, Unbuilt}
-use Rattle.sc_app.specs.declared.status.What.TheVariants.{Bytes, Words, Positions}
+use Rattle.sc_app.specs.declared.status.Status.TheVariants.{Done, Malformed, Large, Rejected, Unbuilt}
+use Rattle.sc_app.specs.declared.status.What.TheVariants.{Words, Positions}
 use Rattle.sc_app.specs.Forms.{IsForm}
-use Rattle.sc_app.specs.Surface.{SurfaceResponds, Says, plan_for}
-use Rattle.sc_app.specs.Check.{CheckResponds, IsCertificateText}
+use Rattle.sc_app.specs.Said.{IsCertificateText, Says, plan_for}
+use Rattle.sc_app.specs.Surface.{SurfaceResponds}
+use Rattle.sc_app.specs.Check.{CheckResponds}
 use Rattle.sc_app.specs.Scl.{SclResponds}
-use Rattle.sc_outside.specs.Told.{Took}
 use Rattle.sc_app.proofs.Inputs.{certificate_faultless, same_certificate, says_no_fault, same_surface}
 use Rattle.sc_app.proofs.OneText.{one_text}
-use Rattle.sc_app.specs.Answers.{Responds, AnswersTo, Answers, Delivers, MayAnswer, IsAsked, IsUnasked, IsExcused}
+use Rattle.sc_app.specs.declared.command.Reading.{Reading}
+use Rattle.sc_app.specs.declared.command.Reading.TheVariants.{Nothing, AtMost}
+use Rattle.sc_app.specs.Reading.{reads}
+use Rattle.sc_app.specs.Answers.{Responds, RespondsBy, AnswersTo, Answers, IsDetermined, DeterminedBy, HasOneAnswer}
+use Rattle.sc_app.proofs.Forms.{one_command}
+use Rattle.sc_app.proofs.Chains.{one_malformed, good_or_malformed}
 
 -- ---- surfaces
 
@@ -52,16 +56,8 @@ SurfaceCause input s =
 surface_cause : (input text : List ℕ) (s : Status) → SurfaceResponds input s text → SurfaceCause input s
 surface_cause input text (Malformed at kind) r = inl (at, kind, refl, r.0)
 surface_cause input text (Rejected (Flaw kind place)) r = inr (inl (kind, place, r.0, r.1, r.2, refl, r.3, r.4))
-surface_cause input text (Rejected Value) r = absurd r
-surface_cause input text (Rejected (Table flaw)) r = absurd r
-surface_cause input text (Rejected NotTight) r = absurd r
 surface_cause input text Done r = inr (inr (r.0, r.1, r.2, refl, r.4, r.5))
-surface_cause input text (Large what) r = absurd r
-surface_cause input text Usage r = absurd r
-surface_cause input text ReadFault r = absurd r
-surface_cause input text WriteFault r = absurd r
-surface_cause input text Memory r = absurd r
-surface_cause input text Unbuilt r = absurd r
+surface_cause input text _ r = absurd r
 
 one_surface_status : (input : List ℕ) (s s' : Status) → SurfaceCause input s → SurfaceCause input s' → s ≡ s'
 one_surface_status input s s' (inl a) (inl b) =
@@ -95,12 +91,7 @@ check_cause : (input text : List ℕ) (s : Status) → CheckResponds input s tex
 check_cause input text (Malformed at kind) r = inl (at, kind, refl, r.0)
 check_cause input text (Rejected condition) r = inr (inl (condition, r.0, refl, r.1, r.2))
 check_cause input text Done r = inr (inr (r.0, refl, r.1, r.2))
-check_cause input text (Large what) r = absurd r
-check_cause input text Usage r = absurd r
-check_cause input text ReadFault r = absurd r
-check_cause input text WriteFault r = absurd r
-check_cause input text Memory r = absurd r
-check_cause input text Unbuilt r = absurd r
+check_cause input text _ r = absurd r
 
 failing_along : (input : List ℕ) (v w : Certificate) (condition : Condition) → IsCertificateText input v → IsCertificateText input w
     → IsFirstFailing v condition → IsFirstFailing w condition
@@ -123,25 +114,6 @@ one_check_status input s s' (inr (inr a)) (inr (inr b)) = a.1 ∙ sym b.1
 
 -- ---- chains
 
-some_or_none : {A : Type 0} (o : Option A) → IsSome o → o ≡ None → ⊥
-some_or_none None some none = false≢true some
-some_or_none (Some x) some none = false≢true (sym (ap is_some none))
-
-no_case : (input : List ℕ) (n : ℕ) → IsSome (line_case (line_at input n)) → line_case (line_at input n) ≡ None → ⊥
-no_case input n = some_or_none (line_case (line_at input n))
-
-one_malformed : (input : List ℕ) (l m : ℕ) (j k : Kind) → IsFirstMalformed input l j → IsFirstMalformed input m k → Malformed l j ≡ Malformed m k
-one_malformed input l m j k a b =
-    elim (cases_lt l m) [
-      | inl less ↦ absurd (no_case input l (b.before l a.counted less) a.no_case)
-      | inr others ↦ elim (cases_lt m l) [
-        | inl less ↦ absurd (no_case input m (a.before m b.counted less) b.no_case)
-        | inr same ↦
-            let lines : l ≡ m = omega arith in
-            ap₂ Malformed lines (a.kind_is ∙ ap (λ (i : ℕ). line_kind (line_at input i)) lines ∙ sym b.kind_is)
-      ]
-    ]
-
 -- what a status of `scl` comes of
 abbrev ChainCause : Chain → Status → Type 0
 ChainCause c s =
@@ -155,16 +127,11 @@ SclCause input s =
 
 scl_cause : (input text : List ℕ) (s : Status) → SclResponds input s text → SclCause input s
 scl_cause input text (Malformed at kind) r = inl (at, kind, refl, r.0)
-scl_cause input text (Large Bytes) r = absurd r
 scl_cause input text (Large (Words n)) r = inr (r.0, r.1, inl (n, refl, r.2))
 scl_cause input text (Large (Positions n)) r = inr (r.0, r.1, inr (inl (n, refl, r.2)))
 scl_cause input text Done r = inr (r.0, r.1, inr (inr (inl (r.3.0, r.3.1, refl, r.2, r.3.2))))
 scl_cause input text Unbuilt r = inr (r.0, r.1, inr (inr (inr (refl, r.2, r.3.0))))
-scl_cause input text Usage r = absurd r
-scl_cause input text (Rejected condition) r = absurd r
-scl_cause input text ReadFault r = absurd r
-scl_cause input text WriteFault r = absurd r
-scl_cause input text Memory r = absurd r
+scl_cause input text _ r = absurd r.3
 
 one_chain_status : (c : Chain) (s s' : Status) → ChainCause c s → ChainCause c s' → s ≡ s'
 one_chain_status c s s' (inl a) (inl b) = a.1 ∙ ap (λ (n : ℕ). Large (Words n)) (a.2.count_is ∙ sym b.2.count_is) ∙ sym b.1
@@ -186,73 +153,33 @@ one_chain_status c s s' (inr (inr (inr a))) (inr (inr (inr b))) = a.0 ∙ sym b.
 
 one_scl_status : (input : List ℕ) (s s' : Status) → SclCause input s → SclCause input s' → s ≡ s'
 one_scl_status input s s' (inl a) (inl b) = a.2 ∙ one_malformed input a.0 b.0 a.1 b.1 a.3 b.3 ∙ sym b.2
-one_scl_status input s s' (inl a) (inr b) = absurd (no_case input a.0 (b.1.cases a.0 a.3.counted a.3.in_text) a.3.no_case)
-one_scl_status input s s' (inr a) (inl b) = absurd (no_case input b.0 (a.1.cases b.0 b.3.counted b.3.in_text) b.3.no_case)
+one_scl_status input s s' (inl a) (inr b) = absurd (good_or_malformed input b.0 a.0 a.1 b.1 a.3)
+one_scl_status input s s' (inr a) (inl b) = absurd (good_or_malformed input a.0 b.0 b.1 a.1 b.3)
 one_scl_status input s s' (inr a) (inr b) =
     one_chain_status (chain_of b.0) s s' (subst (λ (lines : List RawLine). ChainCause (chain_of lines) s) (a.1.entries ∙ sym b.1.entries) a.2) b.2
 
 -- ---- commands
 
-one_response : (c : Command) (input text text' : List ℕ) (s s' : Status) → Responds c input s text → Responds c input s' text' → s ≡ s'
-one_response Surface input text text' s s' r r' = one_surface_status input s s' (surface_cause input text s r) (surface_cause input text' s' r')
-one_response Check input text text' s s' r r' = one_check_status input s s' (check_cause input text s r) (check_cause input text' s' r')
-one_response Scl input text text' s s' r r' = one_scl_status input s s' (scl_cause input text s r) (scl_cause input text' s' r')
+one_response : (c : Command) (input text text' : List ℕ) (s s' : Status) → IsDetermined c input → Responds c input s text → Responds c input s' text' → s ≡ s'
+one_response Surface input text text' s s' one r r' = one_surface_status input s s' (surface_cause input text s r) (surface_cause input text' s' r')
+one_response Check input text text' s s' one r r' = one_check_status input s s' (check_cause input text s r) (check_cause input text' s' r')
+one_response Scl input text text' s s' one r r' = one_scl_status input s s' (scl_cause input text s r) (scl_cause input text' s' r')
 
-one_of_command : (c : Command) (input text text' : List ℕ) (s s' : Status) → AnswersTo c input s text → AnswersTo c input s' text' → s ≡ s'
-one_of_command c input text text' s s' (inl a) (inl b) = a.1 ∙ sym b.1
-one_of_command c input text text' s s' (inl a) (inr b) = absurd (omega (arith, a.0, b.0))
-one_of_command c input text text' s s' (inr a) (inl b) = absurd (omega (arith, a.0, b.0))
-one_of_command c input text text' s s' (inr a) (inr b) = one_response c input text text' s s' a.1 b.1
+one_of_reading : (reading : Reading) (c : Command) (input text text' : List ℕ) (s s' : Status) → DeterminedBy reading c input → RespondsBy reading c input s text → RespondsBy reading c input s' text' → s ≡ s'
+one_of_reading Nothing c input text text' s s' one a b = one_response c [] text text' s s' one a b
+one_of_reading (AtMost limit) c input text text' s s' one (inl a) (inl b) = a.1 ∙ sym b.1
+one_of_reading (AtMost limit) c input text text' s s' one (inl a) (inr b) = absurd (omega (arith, a.0, b.0))
+one_of_reading (AtMost limit) c input text text' s s' one (inr a) (inl b) = absurd (omega (arith, a.0, b.0))
+one_of_reading (AtMost limit) c input text text' s s' one (inr a) (inr b) = one_response c input text text' s s' one a.1 b.1
 
-pub one_command : (words : List (List ℕ)) (c d : Command) → IsForm c words → IsForm d words → c ≡ d
-one_command words Surface Surface f g = refl
-one_command words Surface Check f g = let sizes : 7 ≡ 5 = ap (λ (w : List (List ℕ)). length (get_or w 0 [])) (sym f ∙ g) in absurd (omega (arith, sizes))
-one_command words Surface Scl f g = let sizes : 7 ≡ 3 = ap (λ (w : List (List ℕ)). length (get_or w 0 [])) (sym f ∙ g) in absurd (omega (arith, sizes))
-one_command words Check Surface f g = let sizes : 5 ≡ 7 = ap (λ (w : List (List ℕ)). length (get_or w 0 [])) (sym f ∙ g) in absurd (omega (arith, sizes))
-one_command words Check Check f g = refl
-one_command words Check Scl f g = let sizes : 5 ≡ 3 = ap (λ (w : List (List ℕ)). length (get_or w 0 [])) (sym f ∙ g) in absurd (omega (arith, sizes))
-one_command words Scl Surface f g = let sizes : 3 ≡ 7 = ap (λ (w : List (List ℕ)). length (get_or w 0 [])) (sym f ∙ g) in absurd (omega (arith, sizes))
-one_command words Scl Check f g = let sizes : 3 ≡ 5 = ap (λ (w : List (List ℕ)). length (get_or w 0 [])) (sym f ∙ g) in absurd (omega (arith, sizes))
-one_command words Scl Scl f g = refl
+-- the answer to words, of the command that they are known to ask for
+of_command : (words : List (List ℕ)) (c : Command) (input text : List ℕ) (s : Status) → IsForm c words → Answers words input s text → AnswersTo c input s text
+of_command words c input text s form a = subst (λ (d : Command). AnswersTo d input s text) (one_command words a.0 c a.1 form) a.2
 
-pub one_answer : (words : List (List ℕ)) (input text text' : List ℕ) (s s' : Status) → Answers words input s text → Answers words input s' text' → s ≡ s'
-one_answer words input text text' s s' a b =
-    one_of_command b.0 input text text' s s' (subst (λ (c : Command). AnswersTo c input s text) (one_command words a.0 b.0 a.1 b.1) a.2) b.2
+pub one_answer : (words : List (List ℕ)) (input text text' : List ℕ) (s s' : Status) → HasOneAnswer words input → Answers words input s text → Answers words input s' text' → s ≡ s'
+one_answer words input text text' s s' one a b = one_of_reading (reads b.0) b.0 input text text' s s' (one b.0 b.1) (of_command words b.0 input text s b.1 a) b.2
 
-pub one_text_answer : (words : List (List ℕ)) (input text text' : List ℕ) (s s' : Status) → Answers words input s text → Answers words input s' text' → text ≡ text'
-one_text_answer words input text text' s s' a b =
-    let same : AnswersTo b.0 input s text = subst (λ (c : Command). AnswersTo c input s text) (one_command words a.0 b.0 a.1 b.1) a.2 in
-    one_text b.0 input text text' s' (subst (λ (t : Status). AnswersTo b.0 input t text) (one_of_command b.0 input text text' s s' same b.2) same) b.2
-
--- ---- so a call answers that, unless something failed
-
--- the answer came, and its text was taken
-abbrev Comes : Status → Option (List ℕ) → Option (List ℕ) → Status → List ℕ → Type 0
-Comes s old new status text = (s ≡ status) × Took old new text
-
-one_delivered : (words : List (List ℕ)) (input : List ℕ) (c : Command) (old new : Option (List ℕ)) (s : Status) → IsForm c words → Delivers c (Some input) old new s
-    → (status : Status) (text : List ℕ) → Answers words input status text → Comes s old new status text ⊎ IsExcused s
-one_delivered words input c old new s f d status text a =
-    inl (
-      one_answer words input d.0 text s status (c, f, d.1) a,
-      subst (Took old new) (one_text_answer words input d.0 text s status (c, f, d.1) a) d.2,
-    )
-
-excused : (words : List (List ℕ)) (input : List ℕ) (c : Command) (ReadRose WriteRose : Type 0) (old new : Option (List ℕ)) (s : Status) → IsForm c words
-    → MayAnswer c (Some input) ReadRose WriteRose old new s → (status : Status) (text : List ℕ) → Answers words input status text → Comes s old new status text ⊎ IsExcused s
-excused words input c R W old new Done f m = one_delivered words input c old new Done f m
-excused words input c R W old new (Malformed at kind) f m = one_delivered words input c old new (Malformed at kind) f m.0
-excused words input c R W old new (Large what) f m = one_delivered words input c old new (Large what) f m.0
-excused words input c R W old new (Rejected condition) f m = one_delivered words input c old new (Rejected condition) f m
-excused words input c R W old new Unbuilt f m = one_delivered words input c old new Unbuilt f m.0
-excused words input c R W old new Usage f m = absurd m
-excused words input c R W old new ReadFault f m = λ status text a. inr tt
-excused words input c R W old new WriteFault f m = λ status text a. inr tt
-excused words input c R W old new Memory f m = λ status text a. inr tt
-
-pub complete : (words : List (List ℕ)) (left left' : Option (List ℕ)) (faults faults' : ℕ) (ReadRose WriteRose : Type 0) (old new : Option (List ℕ)) (s : Status)
-    → IsUnasked words left left' faults faults' old new s ⊎ IsAsked words left left' ReadRose WriteRose old new s
-    → IfSome left (λ input. (status : Status) (text : List ℕ) → Answers words input status text → Comes s old new status text ⊎ IsExcused s)
-complete words None left' n n' R W old new s h = tt
-complete words (Some input) left' n n' R W old new s (inl h) = λ status text a. absurd (h.none a.0 a.1)
-complete words (Some input) left' n n' R W old new s (inr h) = excused words input h.0 R W old new s h.1 h.2
+pub one_text_answer : (words : List (List ℕ)) (input text text' : List ℕ) (s s' : Status) → HasOneAnswer words input → Answers words input s text → Answers words input s' text' → text ≡ text'
+one_text_answer words input text text' s s' one a b =
+    let same : AnswersTo b.0 input s text = of_command words b.0 input text s b.1 a in
+    one_text (reads b.0) b.0 input text text' s' (one b.0 b.1) (subst (λ (t : Status). AnswersTo b.0 input t text) (one_answer words input text text' s s' one a b) same) b.2

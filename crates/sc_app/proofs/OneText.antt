@@ -1,6 +1,5 @@
 -- With its status, the text of an answer is determined too.
-use Rattle.std.proofs.Common.{◌≡◌, ℕ, ◌*◌, ◌<◌, inl, inr, List, ℤ, pos, ◌*ℤ◌, ap, ap₂, ◌∙◌, subst, sym, arith}
-use Rattle.std.proofs.lemmas.Bool.{cases_lt}
+use Rattle.std.proofs.Common.{◌≡◌, ℕ, ◌*◌, ◌<◌, inl, inr, List, [], ℤ, pos, ◌*ℤ◌, ap, ap₂, ◌∙◌, subst, sym, arith}
 use Rattle.std.proofs.lemmas.Int.{ints}
 use Rattle.sc_algebra.proofs.Ints.{cancel_factor, products}
 use Rattle.sc_theory.specs.Chains.{Chain}
@@ -13,17 +12,21 @@ use Rattle.sc_chain.specs.ChainText.{IsChainText}
 use Rattle.sc_chain.specs.Balance.{IsFirstUnbalanced}
 use Rattle.sc_reduce.specs.Lines.{chain_of}
 use Rattle.sc_certificate.specs.Certificates.{Certificate}
-use Rattle.sc_prices.specs.declared.verdict.Condition.TheVariants.{Flaw, Value, Table, NotTight}
+use Rattle.sc_prices.specs.declared.verdict.Condition.TheVariants.{Flaw}
 use Rattle.sc_app.specs.declared.command.Command.{Command}
 use Rattle.sc_app.specs.declared.command.Command.TheVariants.{Surface, Check, Scl}
 use Rattle.sc_app.specs.declared.status.Status.{Status}
-use Rattle.sc_app.specs.declared.status.Status.TheVariants.{Done, Usage, Malformed, Large, ReadFault, WriteFault, Memory, Rejected, Unbuilt}
-use Rattle.sc_app.specs.declared.status.What.TheVariants.{Bytes, Words, Positions}
+use Rattle.sc_app.specs.declared.status.Status.TheVariants.{Done, Malformed, Large, Rejected, Unbuilt}
+use Rattle.sc_app.specs.declared.status.What.TheVariants.{Words, Positions}
 use Rattle.sc_app.specs.Surface.{SurfaceResponds, report}
 use Rattle.sc_app.specs.Check.{CheckResponds, optimal}
-use Rattle.sc_app.specs.Scl.{SclResponds, infinite}
-use Rattle.sc_app.specs.Answers.{Responds, AnswersTo}
+use Rattle.sc_app.specs.Scl.{SclResponds}
+use Rattle.sc_app.specs.Said.{Refuses}
+use Rattle.sc_app.specs.declared.command.Reading.{Reading}
+use Rattle.sc_app.specs.declared.command.Reading.TheVariants.{Nothing, AtMost}
+use Rattle.sc_app.specs.Answers.{Responds, RespondsBy, IsDetermined, DeterminedBy}
 use Rattle.sc_app.proofs.Inputs.{same_certificate, same_surface}
+use Rattle.sc_app.proofs.Chains.{same_lines, same_infinite}
 
 -- ---- surfaces
 
@@ -45,21 +48,16 @@ same_report input c n g f d m h f' fatgraph sides copies q q' =
     subst (λ (k : ℕ). IsQuotient (cost h) (pos (2 * k)) f) copies (subst (λ (x : Sides). IsQuotient (cost x) (pos (2 * n)) f) sides q) in
     ap₂ report sides (same_fraction h m f f' fatgraph.copies along q')
 
+refusal_text : (input text text' : List ℕ) (s : Status) → Refuses input s text → Refuses input s text' → text ≡ text'
+refusal_text input text text' (Malformed at kind) r r' = r.1 ∙ sym r'.1
+refusal_text input text text' (Rejected (Flaw kind place)) r r' = r.5 ∙ sym r'.5
+refusal_text input text text' _ r r' = absurd r
+
 surface_text : (input text text' : List ℕ) (s : Status) → SurfaceResponds input s text → SurfaceResponds input s text' → text ≡ text'
-surface_text input text text' (Malformed at kind) r r' = r.1 ∙ sym r'.1
-surface_text input text text' (Rejected (Flaw kind place)) r r' = r.5 ∙ sym r'.5
-surface_text input text text' (Rejected Value) r r' = absurd r
-surface_text input text text' (Rejected (Table flaw)) r r' = absurd r
-surface_text input text text' (Rejected NotTight) r r' = absurd r
 surface_text input text text' Done r r' =
     let same = same_surface input r.0 r.1 r.2 r'.0 r'.1 r'.2 r.4 r'.4 in
     r.7 ∙ same_report input r.0 r.1 r.2 r.3 r'.0 r'.1 r'.2 r'.3 r'.5 same.sides same.copies r.6 r'.6 ∙ sym r'.7
-surface_text input text text' (Large what) r r' = absurd r
-surface_text input text text' Usage r r' = absurd r
-surface_text input text text' ReadFault r r' = absurd r
-surface_text input text text' WriteFault r r' = absurd r
-surface_text input text text' Memory r r' = absurd r
-surface_text input text text' Unbuilt r r' = absurd r
+surface_text input text text' s r r' = refusal_text input text text' s r r'
 
 -- ---- certificates
 
@@ -68,36 +66,12 @@ check_text input text text' (Malformed at kind) r r' = r.1 ∙ sym r'.1
 check_text input text text' (Rejected condition) r r' = r.3 ∙ sym r'.3
 check_text input text text' Done r r' =
     r.3 ∙ ap (λ (v : Certificate). optimal v.value) (same_certificate input r.0 r'.0 r.1 r'.1) ∙ sym r'.3
-check_text input text text' (Large what) r r' = absurd r
-check_text input text text' Usage r r' = absurd r
-check_text input text text' ReadFault r r' = absurd r
-check_text input text text' WriteFault r r' = absurd r
-check_text input text text' Memory r r' = absurd r
-check_text input text text' Unbuilt r r' = absurd r
+check_text input text text' _ r r' = absurd r
 
 -- ---- chains
 
-same_lines : (input : List ℕ) (lines lines' : List RawLine) → IsChainText input lines → IsChainText input lines' → lines ≡ lines'
-same_lines input lines lines' a b = a.entries ∙ sym b.entries
-
-same_generator : (c : Chain) (g h : ℕ) (t u : ℤ) → IsFirstUnbalanced c g t → IsFirstUnbalanced c h u → g ≡ h
-same_generator c g h t u a b =
-    elim (cases_lt g h) [
-      | inl less ↦ absurd (a.unbalanced (a.total_is ∙ b.least g less))
-      | inr others ↦ elim (cases_lt h g) [
-        | inl less ↦ absurd (b.unbalanced (b.total_is ∙ a.least h less))
-        | inr same ↦ omega arith
-      ]
-    ]
-
-same_infinite : (c : Chain) (g h : ℕ) (t u : ℤ) → IsFirstUnbalanced c g t → IsFirstUnbalanced c h u → infinite g t ≡ infinite h u
-same_infinite c g h t u a b =
-    let same : g ≡ h = same_generator c g h t u a b in
-    ap₂ infinite same ((subst (λ (k : ℕ). IsFirstUnbalanced c k t) same a).total_is ∙ sym b.total_is)
-
 scl_text : (input text text' : List ℕ) (s : Status) → SclResponds input s text → SclResponds input s text' → text ≡ text'
 scl_text input text text' (Malformed at kind) r r' = r.1 ∙ sym r'.1
-scl_text input text text' (Large Bytes) r r' = absurd r
 scl_text input text text' (Large (Words n)) r r' = r.3 ∙ sym r'.3
 scl_text input text text' (Large (Positions n)) r r' = r.3 ∙ sym r'.3
 scl_text input text text' Done r r' =
@@ -105,21 +79,18 @@ scl_text input text text' Done r r' =
     subst (λ (lines : List RawLine). IsFirstUnbalanced (chain_of lines) r.3.0 r.3.1) (same_lines input r.0 r'.0 r.1 r'.1) r.3.2 in
     r.3.3 ∙ same_infinite (chain_of r'.0) r.3.0 r'.3.0 r.3.1 r'.3.1 first r'.3.2 ∙ sym r'.3.3
 scl_text input text text' Unbuilt r r' = r.3.1 ∙ sym r'.3.1
-scl_text input text text' Usage r r' = absurd r
-scl_text input text text' (Rejected condition) r r' = absurd r
-scl_text input text text' ReadFault r r' = absurd r
-scl_text input text text' WriteFault r r' = absurd r
-scl_text input text text' Memory r r' = absurd r
+scl_text input text text' _ r r' = absurd r.3
 
 -- ---- commands
 
-response_text : (c : Command) (input text text' : List ℕ) (s : Status) → Responds c input s text → Responds c input s text' → text ≡ text'
-response_text Surface input text text' s r r' = surface_text input text text' s r r'
-response_text Check input text text' s r r' = check_text input text text' s r r'
-response_text Scl input text text' s r r' = scl_text input text text' s r r'
+response_text : (c : Command) (input text text' : List ℕ) (s : Status) → IsDetermined c input → Responds c input s text → Responds c input s text' → text ≡ text'
+response_text Surface input text text' s one r r' = surface_text input text text' s r r'
+response_text Check input text text' s one r r' = check_text input text text' s r r'
+response_text Scl input text text' s one r r' = scl_text input text text' s r r'
 
-pub one_text : (c : Command) (input text text' : List ℕ) (s : Status) → AnswersTo c input s text → AnswersTo c input s text' → text ≡ text'
-one_text c input text text' s (inl a) (inl b) = a.2 ∙ sym b.2
-one_text c input text text' s (inl a) (inr b) = absurd (omega (arith, a.0, b.0))
-one_text c input text text' s (inr a) (inl b) = absurd (omega (arith, a.0, b.0))
-one_text c input text text' s (inr a) (inr b) = response_text c input text text' s a.1 b.1
+pub one_text : (reading : Reading) (c : Command) (input text text' : List ℕ) (s : Status) → DeterminedBy reading c input → RespondsBy reading c input s text → RespondsBy reading c input s text' → text ≡ text'
+one_text Nothing c input text text' s one a b = response_text c [] text text' s one a b
+one_text (AtMost limit) c input text text' s one (inl a) (inl b) = a.2 ∙ sym b.2
+one_text (AtMost limit) c input text text' s one (inl a) (inr b) = absurd (omega (arith, a.0, b.0))
+one_text (AtMost limit) c input text text' s one (inr a) (inl b) = absurd (omega (arith, a.0, b.0))
+one_text (AtMost limit) c input text text' s one (inr a) (inr b) = response_text c input text text' s one a.1 b.1

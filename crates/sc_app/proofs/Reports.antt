@@ -5,15 +5,16 @@ use Rattle.sc_theory.specs.Chains.{Chain}
 use Rattle.sc_theory.specs.Fatgraphs.{Sides, IsFatgraph, vertices, edges, cost}
 use Rattle.sc_fraction.specs.declared.frac.Frac.{Frac}
 use Rattle.sc_fraction.specs.Frac.{IsQuotient, frac_text}
-use Rattle.sc_fatgraph.specs.Surfaces.{Surface, surface}
+use Rattle.sc_fatgraph.specs.Surfaces.{Surface}
 use Rattle.sc_chain.specs.declared.lines.RawLine.{RawLine}
 use Rattle.sc_chain.specs.ChainText.{IsChainText}
 use Rattle.sc_reduce.specs.Lines.{chain_of, IsWithin}
 use Rattle.sc_app.specs.Notes.{line}
-use Rattle.sc_app.specs.Surface.{SurfaceResponds, Says, euler, report, fraction_label}
+use Rattle.sc_app.specs.Said.{Says, Refuses}
+use Rattle.sc_app.specs.Surface.{SurfaceResponds, euler, report, fraction_label}
 use Rattle.sc_app.specs.Scl.{SclResponds, IsValueOf}
 use Rattle.sc_app.specs.declared.status.Status.{Status}
-use Rattle.sc_app.specs.declared.status.Status.TheVariants.{Done, Usage, Malformed, Large, ReadFault, WriteFault, Memory, Rejected, Unbuilt}
+use Rattle.sc_app.specs.declared.status.Status.TheVariants.{Done, Unbuilt}
 
 -- four lines one after another are the report
 pub four_lines : (g : Sides) (f : Frac) (t0 t1 t2 t3 t4 : List ℕ) (a b c : ℤ) → t0 ≡ []
@@ -37,21 +38,17 @@ of_cost g v e n m f is_v is_e is_m h =
     (subst (λ (k : ℕ). IsQuotient (pos k -ℤ pos (vertices g)) (pos (2 * m)) f) is_e
     (subst (λ (k : ℕ). IsQuotient (pos e -ℤ pos k) (pos (2 * m)) f) is_v h))
 
-pub reported : (input : List ℕ) (c : Chain) (n : ℕ) (g : Sides) (fatgraph : Surface) (items : List ℕ) → Says input c n g
-    → IsFatgraph c n g → fatgraph ≡ surface c n g
-    → ((f : Frac) × IsQuotient (cost fatgraph.sides) (pos (2 * fatgraph.copies)) f × (items ≡ report fatgraph.sides f)) → SurfaceResponds input Done items
-reported input c n g fatgraph items says is_fatgraph same told =
-    let own = subst (λ (s : Surface). (f : Frac) × IsQuotient (cost s.sides) (pos (2 * s.copies)) f × (items ≡ report s.sides f)) same told in
-    (c, n, g, own.0, says, is_fatgraph, own.1, own.2)
+pub reported : (input : List ℕ) (f : Surface) (items : List ℕ) → Says input f.chain f.copies f.sides × IsFatgraph f.chain f.copies f.sides
+    → ((q : Frac) × IsQuotient (cost f.sides) (pos (2 * f.copies)) q × (items ≡ report f.sides q)) → SurfaceResponds input Done items
+reported input f items said told = (f.chain, f.copies, f.sides, told.0, said.0, said.1, told.1, told.2)
 
 pub valued : (input : List ℕ) (lines : List RawLine) (c : Chain) → IsChainText input lines → c ≡ chain_of lines → IsWithin (chain_of lines)
     → (s : Status) (text : List ℕ) → IsValueOf c s text → SclResponds input s text
 valued input lines c read same within Done text v = (lines, read, within, subst (λ (d : Chain). IsValueOf d Done text) same v)
 valued input lines c read same within Unbuilt text v = (lines, read, within, subst (λ (d : Chain). IsValueOf d Unbuilt text) same v)
-valued input lines c read same within Usage text v = absurd v
-valued input lines c read same within (Malformed at kind) text v = absurd v
-valued input lines c read same within (Large what) text v = absurd v
-valued input lines c read same within (Rejected condition) text v = absurd v
-valued input lines c read same within ReadFault text v = absurd v
-valued input lines c read same within WriteFault text v = absurd v
-valued input lines c read same within Memory text v = absurd v
+valued input lines c read same within _ text v = absurd v
+
+-- why an input says no surface is what `surface` answers
+pub refused : (input text : List ℕ) (s : Status) → Refuses input s text → SurfaceResponds input s text
+refused input text Done r = absurd r
+refused input text s r = r

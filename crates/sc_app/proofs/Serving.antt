@@ -1,123 +1,137 @@
--- What a command may answer, from what it responds and what the sink took.
-use Rattle.std.proofs.Common.{◌≡◌, ℕ, ◌≤◌, ◌⊎◌, inl, inr, List, [], Option, None, Some, IfSome, length, subst, sym}
-use Rattle.sc_outside.specs.Told.{Took, TookPart}
+-- How a command ends, from what it responds and what the sink took.
+use Rattle.std.proofs.Common.{◌≡◌, ℕ, ◌+◌, ◌≤◌, ◌⊎◌, inl, inr, List, [], Option, None, Some, IfSome, length, drop, refl, subst, sym, ap, ◌∙◌, arith}
+use Rattle.std.proofs.lemmas.List.{drop_all}
+use Rattle.sc_outside.specs.Told.{Delivered, Took, TookPart}
 use Rattle.sc_app.specs.declared.command.Command.{Command}
 use Rattle.sc_app.specs.declared.command.Command.TheVariants.{Surface, Check, Scl}
+use Rattle.sc_app.specs.declared.command.Reading.{Reading}
+use Rattle.sc_app.specs.declared.command.Reading.TheVariants.{Nothing, AtMost}
 use Rattle.sc_app.specs.declared.status.Status.{Status}
-use Rattle.sc_app.specs.declared.status.Status.TheVariants.{Done, Usage, Malformed, Large, ReadFault, WriteFault, Memory, Rejected, Unbuilt}
-use Rattle.sc_app.specs.declared.status.What.TheVariants.{Bytes, Words, Positions}
-use Rattle.sc_app.specs.Forms.{IsForm}
-use Rattle.sc_app.specs.Answers.{limit_of, Responds, AnswersTo, Answers, Delivers, Breaks, IsDecided, MayAnswer, MayRead, ReadWhole, IsAsked, IsUnasked}
+use Rattle.sc_app.specs.declared.status.Status.TheVariants.{Done, Malformed, Large, WriteFault, Rejected, Unbuilt}
+use Rattle.sc_app.specs.declared.status.What.TheVariants.{Words, Positions}
+use Rattle.sc_prices.specs.declared.verdict.Condition.TheVariants.{Flaw}
+use Rattle.sc_app.specs.Kinds.{StatusKind, WithText, WithoutText, PastLimit, Unasked, NotRead, NotWritten, NoMemory, kind_of}
+use Rattle.sc_app.specs.Reading.{reads, Fits, ReadWhole, ReadsUpTo, NeedsNoSource}
+use Rattle.sc_app.specs.Said.{Refuses}
+use Rattle.sc_app.specs.Surface.{SurfaceResponds}
+use Rattle.sc_app.specs.Check.{CheckResponds}
+use Rattle.sc_app.specs.Scl.{SclResponds}
+use Rattle.sc_app.specs.Answers.{Responds, RespondsBy, AnswersTo, EndsBy}
 
--- a response within the limit is an answer, also to the bytes that the input is known to be
-answers : (c : Command) (input bytes text : List ℕ) (s : Status) → input ≡ bytes → length input ≤ limit_of c → Responds c input s text → AnswersTo c bytes s text
-answers c input bytes text s same within resp = subst (λ (b : List ℕ). AnswersTo c b s text) same (inr (within, resp))
+-- ---- a response has a text or none, as the kind of its status says
 
-delivers : (c : Command) (left old new : Option (List ℕ)) (input text : List ℕ) (s : Status) → IfSome left (λ bytes. input ≡ bytes)
-    → length input ≤ limit_of c → Responds c input s text → Took old new text → Delivers c left old new s
-delivers c None old new input text s same within resp took = tt
-delivers c (Some bytes) old new input text s same within resp took = (text, answers c input bytes text s same within resp, took)
+abbrev Suits : StatusKind → List ℕ → Type 0
+Suits WithText text = Unit {0}
+Suits WithoutText text = text ≡ []
+Suits _ text = ⊥
 
-breaks : (c : Command) (left old new : Option (List ℕ)) (input text : List ℕ) (s : Status) → IfSome left (λ bytes. input ≡ bytes)
-    → length input ≤ limit_of c → Responds c input s text → TookPart old new text → Breaks c left old new
-breaks c None old new input text s same within resp part = tt
-breaks c (Some bytes) old new input text s same within resp part = (s, text, answers c input bytes text s same within resp, part)
+refusal_suits : (input text : List ℕ) (s : Status) → Refuses input s text → Suits (kind_of s) text
+refusal_suits input text (Malformed at kind) r = r.1
+refusal_suits input text (Rejected (Flaw kind place)) r = tt
+refusal_suits input text _ r = absurd r
 
-nothing : (old new : Option (List ℕ)) (text : List ℕ) → text ≡ [] → Took old new text → Took old new []
-nothing old new text none took = subst (Took old new) none took
+surface_suits : (input text : List ℕ) (s : Status) → SurfaceResponds input s text → Suits (kind_of s) text
+surface_suits input text Done r = tt
+surface_suits input text s r = refusal_suits input text s r
 
--- what goes out whole
-whole : (c : Command) (left : Option (List ℕ)) (ReadRose WriteRose : Type 0) (old new : Option (List ℕ)) (input text : List ℕ) (s : Status)
-    → IfSome left (λ bytes. input ≡ bytes) → length input ≤ limit_of c → Responds c input s text → Took old new text
-    → MayAnswer c left ReadRose WriteRose old new s
-whole c left R W old new input text Done same within resp took = delivers c left old new input text Done same within resp took
-whole Surface left R W old new input text (Malformed at kind) same within resp took =
-    (delivers Surface left old new input text (Malformed at kind) same within resp took, nothing old new text resp.1 took)
-whole Check left R W old new input text (Malformed at kind) same within resp took =
-    (delivers Check left old new input text (Malformed at kind) same within resp took, nothing old new text resp.1 took)
-whole Scl left R W old new input text (Malformed at kind) same within resp took =
-    (delivers Scl left old new input text (Malformed at kind) same within resp took, nothing old new text resp.1 took)
-whole Surface left R W old new input text (Large what) same within resp took = absurd resp
-whole Check left R W old new input text (Large what) same within resp took = absurd resp
-whole Scl left R W old new input text (Large Bytes) same within resp took = absurd resp
-whole Scl left R W old new input text (Large (Words n)) same within resp took =
-    (delivers Scl left old new input text (Large (Words n)) same within resp took, nothing old new text resp.3 took)
-whole Scl left R W old new input text (Large (Positions n)) same within resp took =
-    (delivers Scl left old new input text (Large (Positions n)) same within resp took, nothing old new text resp.3 took)
-whole c left R W old new input text (Rejected condition) same within resp took = delivers c left old new input text (Rejected condition) same within resp took
-whole Surface left R W old new input text Unbuilt same within resp took = absurd resp
-whole Check left R W old new input text Unbuilt same within resp took = absurd resp
-whole Scl left R W old new input text Unbuilt same within resp took =
-    (delivers Scl left old new input text Unbuilt same within resp took, nothing old new text resp.3.1 took)
-whole Surface left R W old new input text Usage same within resp took = absurd resp
-whole Check left R W old new input text Usage same within resp took = absurd resp
-whole Scl left R W old new input text Usage same within resp took = absurd resp
-whole Surface left R W old new input text ReadFault same within resp took = absurd resp
-whole Check left R W old new input text ReadFault same within resp took = absurd resp
-whole Scl left R W old new input text ReadFault same within resp took = absurd resp
-whole Surface left R W old new input text WriteFault same within resp took = absurd resp
-whole Check left R W old new input text WriteFault same within resp took = absurd resp
-whole Scl left R W old new input text WriteFault same within resp took = absurd resp
-whole Surface left R W old new input text Memory same within resp took = absurd resp
-whole Check left R W old new input text Memory same within resp took = absurd resp
-whole Scl left R W old new input text Memory same within resp took = absurd resp
+check_suits : (input text : List ℕ) (s : Status) → CheckResponds input s text → Suits (kind_of s) text
+check_suits input text (Malformed at kind) r = r.1
+check_suits input text (Rejected condition) r = tt
+check_suits input text Done r = tt
+check_suits input text _ r = absurd r
 
-pub served : (c : Command) (left : Option (List ℕ)) (ReadRose WriteRose : Type 0) (old new : Option (List ℕ)) (input text : List ℕ) (s r : Status)
-    → IfSome left (λ bytes. input ≡ bytes) → length input ≤ limit_of c → Responds c input s text
-    → ((r ≡ s) × Took old new text) ⊎ ((r ≡ WriteFault) × WriteRose × TookPart old new text) → MayAnswer c left ReadRose WriteRose old new r
-served c left R W old new input text s r same within resp (inl h) =
-    subst (MayAnswer c left R W old new) (sym h.0) (whole c left R W old new input text s same within resp h.1)
-served c left R W old new input text s r same within resp (inr h) =
-    subst (MayAnswer c left R W old new) (sym h.0) (h.1, breaks c left old new input text s same within resp h.2)
+scl_suits : (input text : List ℕ) (s : Status) → SclResponds input s text → Suits (kind_of s) text
+scl_suits input text (Malformed at kind) r = r.1
+scl_suits input text (Large (Words n)) r = r.3
+scl_suits input text (Large (Positions n)) r = r.3
+scl_suits input text Done r = tt
+scl_suits input text Unbuilt r = r.3.1
+scl_suits input text _ r = absurd r.3
 
--- ---- the answer of the command is that of the words
+suits : (c : Command) (input text : List ℕ) (s : Status) → Responds c input s text → Suits (kind_of s) text
+suits Surface input text s r = surface_suits input text s r
+suits Check input text s r = check_suits input text s r
+suits Scl input text s r = scl_suits input text s r
 
-of_words : (words : List (List ℕ)) (c : Command) (left old new : Option (List ℕ)) (s : Status) → IsForm c words → Delivers c left old new s
-    → IfSome left (λ bytes. (text : List ℕ) × Answers words bytes s text × Took old new text)
-of_words words c None old new s f d = tt
-of_words words c (Some bytes) old new s f d = (d.0, (c, f, d.1), d.2)
+-- ---- so a command ends
 
-decided : (c : Command) (left : Option (List ℕ)) (ReadRose WriteRose : Type 0) (old new : Option (List ℕ)) (s : Status) → IsDecided s
-    → MayAnswer c left ReadRose WriteRose old new s → Delivers c left old new s
-decided c left R W old new Done d m = m
-decided c left R W old new (Malformed at kind) d m = m.0
-decided c left R W old new (Large what) d m = m.0
-decided c left R W old new (Rejected condition) d m = m
-decided c left R W old new Unbuilt d m = m.0
-decided c left R W old new Usage d m = absurd d
-decided c left R W old new ReadFault d m = absurd d
-decided c left R W old new WriteFault d m = absurd d
-decided c left R W old new Memory d m = absurd d
+needs_none : (k : StatusKind) (text : List ℕ) → Suits k text → NeedsNoSource k
+needs_none WithText text h = tt
+needs_none WithoutText text h = tt
+needs_none _ text h = absurd h
 
-pub answered : (words : List (List ℕ)) (left left' : Option (List ℕ)) (faults faults' : ℕ) (ReadRose WriteRose : Type 0) (old new : Option (List ℕ)) (s : Status)
-    → IsUnasked words left left' faults faults' old new s ⊎ IsAsked words left left' ReadRose WriteRose old new s → IsDecided s
-    → IfSome left (λ bytes. (text : List ℕ) × Answers words bytes s text × Took old new text)
-answered words left left' n n' R W old new s (inl h) d = absurd (subst IsDecided h.usage d)
-answered words left left' n n' R W old new s (inr h) d = of_words words h.0 left old new s h.1 (decided h.0 left R W old new s d h.2)
+-- a response to an input that fits is an answer
+answers : (reading : Reading) (c : Command) (input text : List ℕ) (s : Status) → Fits reading input → Responds c input s text → RespondsBy reading c input s text
+answers Nothing c input text s fits r = subst (λ (bytes : List ℕ). Responds c bytes s text) fits r
+answers (AtMost limit) c input text s fits r = inr (fits, r)
 
--- ---- what is left of the input
+ends_whole : (k : StatusKind) (c : Command) (input text : List ℕ) (W : Type 0) (old new : Option (List ℕ)) (s : Status) → Suits k text → AnswersTo c input s text → Took old new text
+    → EndsBy k c (Some input) ⊥ W old new s
+ends_whole WithText c input text W old new s h a took = (text, a, took)
+ends_whole WithoutText c input text W old new s h a took = ((text, a, took), subst (Took old new) h took)
+ends_whole PastLimit c input text W old new s h a took = absurd h
+ends_whole Unasked c input text W old new s h a took = absurd h
+ends_whole NotRead c input text W old new s h a took = absurd h
+ends_whole NotWritten c input text W old new s h a took = absurd h
+ends_whole NoMemory c input text W old new s h a took = absurd h
 
--- a response comes after every byte was read, and so does a failure to write it
-read_whole : (c : Command) (left left' : Option (List ℕ)) (input text : List ℕ) (s : Status) → ReadWhole left left' → Responds c input s text → MayRead c left left' s
-read_whole c left left' input text Done whole resp = whole
-read_whole c left left' input text (Malformed at kind) whole resp = whole
-read_whole Surface left left' input text (Large Bytes) whole resp = absurd resp
-read_whole Check left left' input text (Large Bytes) whole resp = absurd resp
-read_whole Scl left left' input text (Large Bytes) whole resp = absurd resp
-read_whole c left left' input text (Large (Words n)) whole resp = whole
-read_whole c left left' input text (Large (Positions n)) whole resp = whole
-read_whole c left left' input text (Rejected condition) whole resp = whole
-read_whole c left left' input text Unbuilt whole resp = whole
-read_whole Surface left left' input text Usage whole resp = absurd resp
-read_whole Check left left' input text Usage whole resp = absurd resp
-read_whole Scl left left' input text Usage whole resp = absurd resp
-read_whole c left left' input text ReadFault whole resp = tt
-read_whole c left left' input text WriteFault whole resp = whole
-read_whole Surface left left' input text Memory whole resp = absurd resp
-read_whole Check left left' input text Memory whole resp = absurd resp
-read_whole Scl left left' input text Memory whole resp = absurd resp
+pub needs_no_source : (c : Command) (W : Type 0) (old new : Option (List ℕ)) (input text : List ℕ) (s r : Status) → Responds c input s text
+    → ((r ≡ s) × Took old new text) ⊎ ((r ≡ WriteFault) × W × TookPart old new text) → NeedsNoSource (kind_of r)
+needs_no_source c W old new input text s r resp (inl h) =
+    subst (λ (x : Status). NeedsNoSource (kind_of x)) (sym h.0) (needs_none (kind_of s) text (suits c input text s resp))
+needs_no_source c W old new input text s r resp (inr h) = subst (λ (x : Status). NeedsNoSource (kind_of x)) (sym h.0) tt
 
-pub served_read : (c : Command) (left left' : Option (List ℕ)) (WriteRose : Type 0) (old new : Option (List ℕ)) (input text : List ℕ) (s r : Status) → ReadWhole left left'
-    → Responds c input s text → ((r ≡ s) × Took old new text) ⊎ ((r ≡ WriteFault) × WriteRose × TookPart old new text) → MayRead c left left' r
-served_read c left left' W old new input text s r whole resp (inl h) = subst (MayRead c left left') (sym h.0) (read_whole c left left' input text s whole resp)
-served_read c left left' W old new input text s r whole resp (inr h) = subst (MayRead c left left') (sym h.0) whole
+pub ends : (c : Command) (W : Type 0) (old new : Option (List ℕ)) (input text : List ℕ) (s r : Status) → Fits (reads c) input → Responds c input s text
+    → ((r ≡ s) × Took old new text) ⊎ ((r ≡ WriteFault) × W × TookPart old new text) → EndsBy (kind_of r) c (Some input) ⊥ W old new r
+ends c W old new input text s r fits resp (inl h) =
+    subst (λ (x : Status). EndsBy (kind_of x) c (Some input) ⊥ W old new x) (sym h.0)
+    (ends_whole (kind_of s) c input text W old new s (suits c input text s resp) (answers (reads c) c input text s fits resp) h.1)
+ends c W old new input text s r fits resp (inr h) =
+    subst (λ (x : Status). EndsBy (kind_of x) c (Some input) ⊥ W old new x) (sym h.0)
+    (h.1, (s, text, answers (reads c) c input text s fits resp, h.2))
+
+-- ---- the input is what the source told
+
+along : (P : List ℕ → Type 0) (left : Option (List ℕ)) (input : List ℕ) → IfSome left (λ bytes. input ≡ bytes) → P input → IfSome left P
+along P None input same p = tt
+along P (Some bytes) input same p = subst P same p
+
+-- where the source told its bytes, the command that was given them ends so with what it told
+ends_along : (k : StatusKind) (c : Command) (left : Option (List ℕ)) (input : List ℕ) (R W : Type 0) (old new : Option (List ℕ)) (s : Status) → IfSome left (λ bytes. input ≡ bytes)
+    → EndsBy k c (Some input) ⊥ W old new s → EndsBy k c left R W old new s
+ends_along WithText c left input R W old new s same h = along (λ bytes. (text : List ℕ) × AnswersTo c bytes s text × Took old new text) left input same h
+ends_along WithoutText c left input R W old new s same h =
+    (along (λ bytes. (text : List ℕ) × AnswersTo c bytes s text × Took old new text) left input same h.0, h.1)
+ends_along PastLimit c left input R W old new s same h =
+    (along (λ bytes. (text : List ℕ) × AnswersTo c bytes s text × Took old new text) left input same h.0, h.1)
+ends_along Unasked c left input R W old new s same h = absurd h
+ends_along NotRead c left input R W old new s same h = absurd h.0
+ends_along NotWritten c left input R W old new s same h =
+    (h.0, along (λ bytes. (t : Status) × (text : List ℕ) × AnswersTo c bytes t text × TookPart old new text) left input same h.1)
+ends_along NoMemory c left input R W old new s same h = h
+
+-- the same of a slice of the input
+pub ends_along_slice : (k : StatusKind) (c : Command) (left : Option (List ℕ)) (input bytes : List ℕ) (R W : Type 0) (old new : Option (List ℕ)) (s : Status) → bytes ≡ input
+    → IfSome left (λ all. input ≡ all) → EndsBy k c (Some bytes) ⊥ W old new s → EndsBy k c left R W old new s
+ends_along_slice k c left input bytes R W old new s same told h =
+    ends_along k c left input R W old new s told (subst (λ (b : List ℕ). EndsBy k c (Some b) ⊥ W old new s) same h)
+
+delivered : (left left' : Option (List ℕ)) (input : List ℕ) (limit : ℕ) → IfSome left (λ bytes. input ≡ bytes) → ReadWhole left left' → length input ≤ limit
+    → (n : ℕ) × (n ≤ limit) × Delivered left left' n
+delivered None left' input limit same whole within = (0, omega arith, tt)
+delivered (Some bytes) left' input limit same whole within = (
+  length bytes,
+  subst (λ (l : List ℕ). length l ≤ limit) same within,
+  subst (λ (o : Option (List ℕ)). Delivered (Some bytes) o (length bytes)) (sym whole) (omega arith, sym (drop_all (length bytes) bytes (omega arith))),
+)
+
+-- what a command read that had its whole input
+pub read_whole : (k : StatusKind) (limit : ℕ) (left left' : Option (List ℕ)) (input : List ℕ) → IfSome left (λ bytes. input ≡ bytes) → ReadWhole left left' → length input ≤ limit
+    → NeedsNoSource k → ReadsUpTo k limit left left'
+read_whole WithText limit left left' input same whole within h = whole
+read_whole WithoutText limit left left' input same whole within h = whole
+read_whole PastLimit limit left left' input same whole within h = absurd h
+read_whole Unasked limit left left' input same whole within h = absurd h
+read_whole NotRead limit left left' input same whole within h = absurd h
+read_whole NotWritten limit left left' input same whole within h = whole
+read_whole NoMemory limit left left' input same whole within h = delivered left left' input limit same whole within

@@ -1,22 +1,20 @@
 -- What a call of the program may answer.
 use Rattle.std.specs.Prelude.{◌≡◌, ℕ, ◌+◌, ◌<◌, ◌≤◌, ◌⊎◌, List, [], length, Option, Some, IfSome}
-use Rattle.sc_outside.specs.Told.{Delivered, Took, TookPart}
+use Rattle.sc_outside.specs.Told.{Took, TookPart}
 use Rattle.sc_app.specs.declared.command.Command.{Command}
 use Rattle.sc_app.specs.declared.command.Command.TheVariants.{Surface, Check, Scl}
+use Rattle.sc_app.specs.declared.command.Reading.{Reading}
+use Rattle.sc_app.specs.declared.command.Reading.TheVariants.{Nothing, AtMost}
 use Rattle.sc_app.specs.declared.status.Status.{Status}
-use Rattle.sc_app.specs.declared.status.Status.TheVariants.{Done, Usage, Malformed, Large, ReadFault, WriteFault, Memory, Rejected, Unbuilt}
-use Rattle.sc_app.specs.declared.status.What.TheVariants.{Bytes, Words, Positions}
-use Rattle.sc_app.specs.declared.limits.TheConstants.{MAX_TEXT_BYTES, MAX_CHAIN_BYTES}
-use Rattle.sc_app.specs.Forms.{IsForm}
-use Rattle.sc_app.specs.Surface.{SurfaceResponds}
-use Rattle.sc_app.specs.Check.{CheckResponds}
-use Rattle.sc_app.specs.Scl.{SclResponds}
-
--- the most bytes that a command reads
-abbrev pub limit_of : Command → ℕ
-limit_of Surface = MAX_TEXT_BYTES
-limit_of Check = MAX_TEXT_BYTES
-limit_of Scl = MAX_CHAIN_BYTES
+use Rattle.sc_app.specs.declared.status.Status.TheVariants.{Usage, Large}
+use Rattle.sc_app.specs.declared.status.What.TheVariants.{Bytes}
+use Rattle.sc_app.specs.Forms.{IsForm, HasNoForm}
+use Rattle.sc_app.specs.Kinds.{StatusKind, WithText, WithoutText, PastLimit, Unasked, NotRead, NotWritten, NoMemory, kind_of}
+use Rattle.sc_app.specs.Notes.{note_of}
+use Rattle.sc_app.specs.Reading.{reads, given, MayRead, ReadsAll, IsUntouched, most_turns}
+use Rattle.sc_app.specs.Surface.{SurfaceResponds, SurfaceAccepts, IsSurfaceStatus}
+use Rattle.sc_app.specs.Check.{CheckResponds, CheckAccepts, IsCheckStatus}
+use Rattle.sc_app.specs.Scl.{SclResponds, SclAccepts, IsSclStatus}
 
 -- what a command answers to an input that isn't over its limit: the status, and the text for `out`
 abbrev pub Responds : Command → List ℕ → Status → List ℕ → Type 0
@@ -24,39 +22,63 @@ Responds Surface input status text = SurfaceResponds input status text
 Responds Check input status text = CheckResponds input status text
 Responds Scl input status text = SclResponds input status text
 
+-- the same for any input, by what the command reads: one that reads nothing has the empty input
+abbrev pub RespondsBy : Reading → Command → List ℕ → Status → List ℕ → Type 0
+RespondsBy Nothing c input status text = Responds c [] status text
+RespondsBy (AtMost limit) c input status text =
+    ((limit < length input) × (status ≡ Large Bytes) × (text ≡ []))
+    ⊎ ((length input ≤ limit) × Responds c input status text)
+
 -- what a command answers to an input
 abbrev pub AnswersTo : Command → List ℕ → Status → List ℕ → Type 0
-AnswersTo c input status text =
-    ((limit_of c < length input) × (status ≡ Large Bytes) × (text ≡ []))
-    ⊎ ((length input ≤ limit_of c) × Responds c input status text)
+AnswersTo c input status text = RespondsBy (reads c) c input status text
 
 -- what the words ask for, as the answer to an input
 abbrev pub Answers : List (List ℕ) → List ℕ → Status → List ℕ → Type 0
 Answers words input status text = (c : Command) × IsForm c words × AnswersTo c input status text
 
--- the statuses that the words and the input decide
-abbrev pub IsDecided : Status → Type 0
-IsDecided Done = Unit {0}
-IsDecided (Malformed line kind) = Unit {0}
-IsDecided (Large what) = Unit {0}
-IsDecided (Rejected condition) = Unit {0}
-IsDecided Unbuilt = Unit {0}
-IsDecided Usage = ⊥
-IsDecided ReadFault = ⊥
-IsDecided WriteFault = ⊥
-IsDecided Memory = ⊥
+-- ---- inputs with one answer, and inputs that are accepted
 
--- the statuses with which nothing goes to `out`
-abbrev pub IsQuiet : Status → Type 0
-IsQuiet Done = ⊥
-IsQuiet (Malformed line kind) = Unit {0}
-IsQuiet (Large what) = Unit {0}
-IsQuiet Usage = Unit {0}
-IsQuiet ReadFault = Unit {0}
-IsQuiet WriteFault = ⊥
-IsQuiet Memory = Unit {0}
-IsQuiet (Rejected condition) = ⊥
-IsQuiet Unbuilt = Unit {0}
+-- the inputs that have one right answer: all of these commands'
+abbrev pub IsDetermined : Command → List ℕ → Type 0
+IsDetermined Surface input = Unit {0}
+IsDetermined Check input = Unit {0}
+IsDetermined Scl input = Unit {0}
+
+-- the same for any input, by what the command reads
+abbrev pub DeterminedBy : Reading → Command → List ℕ → Type 0
+DeterminedBy Nothing c input = IsDetermined c []
+DeterminedBy (AtMost limit) c input = IsDetermined c input
+
+-- the words and the input have one right answer, where they have any
+abbrev pub HasOneAnswer : List (List ℕ) → List ℕ → Type 0
+HasOneAnswer words input = (c : Command) → IsForm c words → DeterminedBy (reads c) c input
+
+-- the command's format and limits allow the input
+abbrev pub Allows : Command → List ℕ → Type 0
+Allows Surface input = SurfaceAccepts input
+Allows Check input = CheckAccepts input
+Allows Scl input = SclAccepts input
+
+-- the same for any input, by what the command reads
+abbrev pub AllowsBy : Reading → Command → List ℕ → Type 0
+AllowsBy Nothing c input = Unit {0}
+AllowsBy (AtMost limit) c input = (length input ≤ limit) × Allows c input
+
+abbrev pub IsAccepted : Command → List ℕ → Type 0
+IsAccepted c input = AllowsBy (reads c) c input
+
+-- what a command may answer to an input that it accepts, besides for want of memory
+abbrev pub IsOwnStatus : Command → Status → Type 0
+IsOwnStatus Surface status = IsSurfaceStatus status
+IsOwnStatus Check status = IsCheckStatus status
+IsOwnStatus Scl status = IsSclStatus status
+
+-- an answer of the command's own to the input came, and `out` took its text
+abbrev pub IsOwnAnswer : Command → List ℕ → Option (List ℕ) → Option (List ℕ) → Status → Type 0
+IsOwnAnswer c input old new status = (text : List ℕ) × IsOwnStatus c status × AnswersTo c input status text × Took old new text
+
+-- ---- how a command ends
 
 -- where the input is told, this is its answer, and `out` took the text
 abbrev pub Delivers : Command → Option (List ℕ) → Option (List ℕ) → Option (List ℕ) → Status → Type 0
@@ -68,94 +90,49 @@ abbrev pub Breaks : Command → Option (List ℕ) → Option (List ℕ) → Opti
 Breaks c input old new =
     IfSome input (λ bytes. (status : Status) × (text : List ℕ) × AnswersTo c bytes status text × TookPart old new text)
 
--- what a command may answer: `input` is what the source had left, `ReadRose` and `WriteRose` that a count of faults rose, and
--- `old` and `new` what `out` had taken before and has taken now
-abbrev pub MayAnswer : Command → Option (List ℕ) → Type 0 → Type 0 → Option (List ℕ) → Option (List ℕ) → Status → Type 0
-MayAnswer c input ReadRose WriteRose old new Done = Delivers c input old new Done
-MayAnswer c input ReadRose WriteRose old new (Malformed line kind) =
-    Delivers c input old new (Malformed line kind) × Took old new []
-MayAnswer c input ReadRose WriteRose old new (Large what) = Delivers c input old new (Large what) × Took old new []
-MayAnswer c input ReadRose WriteRose old new Usage = ⊥
-MayAnswer c input ReadRose WriteRose old new ReadFault = ReadRose × Took old new []
-MayAnswer c input ReadRose WriteRose old new WriteFault = WriteRose × Breaks c input old new
-MayAnswer c input ReadRose WriteRose old new Memory = Took old new []
-MayAnswer c input ReadRose WriteRose old new (Rejected condition) = Delivers c input old new (Rejected condition)
-MayAnswer c input ReadRose WriteRose old new Unbuilt = Delivers c input old new Unbuilt × Took old new []
+-- how a command ends by a status of a kind: `input` is what it is given, where that is told, `ReadRose` and `WriteRose` that
+-- a count of faults rose, and `old` and `new` what `out` had taken before and has taken now
+abbrev pub EndsBy : StatusKind → Command → Option (List ℕ) → Type 0 → Type 0 → Option (List ℕ) → Option (List ℕ) → Status → Type 0
+EndsBy WithText c input ReadRose WriteRose old new status = Delivers c input old new status
+EndsBy WithoutText c input ReadRose WriteRose old new status = Delivers c input old new status × Took old new []
+EndsBy PastLimit c input ReadRose WriteRose old new status = Delivers c input old new status × Took old new []
+EndsBy Unasked c input ReadRose WriteRose old new status = ⊥
+EndsBy NotRead c input ReadRose WriteRose old new status = ReadRose × Took old new []
+EndsBy NotWritten c input ReadRose WriteRose old new status = WriteRose × Breaks c input old new
+EndsBy NoMemory c input ReadRose WriteRose old new status = Took old new []
 
--- ---- what is left of the input
+-- ---- how a call ends
 
--- where the input was told, every byte of it was read
-abbrev pub ReadWhole : Option (List ℕ) → Option (List ℕ) → Type 0
-ReadWhole left left' = IfSome left (λ input. left' ≡ Some [])
-
--- one byte more than the command's limit was read
-abbrev pub ReadPastLimit : Command → Option (List ℕ) → Option (List ℕ) → Type 0
-ReadPastLimit c left left' = Delivered left left' (limit_of c + 1)
-
--- not more bytes than the limit were read
-abbrev pub ReadWithinLimit : Command → Option (List ℕ) → Option (List ℕ) → Type 0
-ReadWithinLimit c left left' = (n : ℕ) × (n ≤ limit_of c) × Delivered left left' n
-
--- the statuses that come after every byte was read
-abbrev pub IsReadToTheEnd : Status → Type 0
-IsReadToTheEnd Done = Unit {0}
-IsReadToTheEnd (Malformed line kind) = Unit {0}
-IsReadToTheEnd (Large Bytes) = ⊥
-IsReadToTheEnd (Large (Words count)) = Unit {0}
-IsReadToTheEnd (Large (Positions count)) = Unit {0}
-IsReadToTheEnd (Rejected condition) = Unit {0}
-IsReadToTheEnd Unbuilt = Unit {0}
-IsReadToTheEnd WriteFault = Unit {0}
-IsReadToTheEnd Usage = ⊥
-IsReadToTheEnd ReadFault = ⊥
-IsReadToTheEnd Memory = ⊥
-
--- how much of the input a command may have read, with each status that it may answer: `left` is what the source had, and
--- `left'` what it has now
-abbrev pub MayRead : Command → Option (List ℕ) → Option (List ℕ) → Status → Type 0
-MayRead c left left' Done = ReadWhole left left'
-MayRead c left left' (Malformed line kind) = ReadWhole left left'
-MayRead c left left' (Large Bytes) = ReadPastLimit c left left'
-MayRead c left left' (Large (Words count)) = ReadWhole left left'
-MayRead c left left' (Large (Positions count)) = ReadWhole left left'
-MayRead c left left' (Rejected condition) = ReadWhole left left'
-MayRead c left left' Unbuilt = ReadWhole left left'
-MayRead c left left' WriteFault = ReadWhole left left'
-MayRead c left left' Usage = ⊥
-MayRead c left left' ReadFault = Unit {0}
-MayRead c left left' Memory = ReadWithinLimit c left left'
-
--- ---- what a call may answer
-
--- the words are no form
-abbrev pub HasNoForm : List (List ℕ) → Type 0
-HasNoForm words = (c : Command) → IsForm c words → ⊥
-
+-- what a call saw of its streams: `left` and `left'` what the source has left before and after, `faults` and `faults'` its
+-- count, `ReadRose` and `WriteRose` that the source's count and that of `out` rose, `old` and `new` what `out` took
 -- the words ask for nothing: nothing is read or written
 pub record IsUnasked (words : List (List ℕ)) (left left' : Option (List ℕ)) (faults faults' : ℕ) (old new : Option (List ℕ)) (status : Status) : Type 0 where
   pub none : HasNoForm words
   pub usage : status ≡ Usage
-  pub same_left : left' ≡ left
-  pub same_faults : faults' ≡ faults
+  pub source : IsUntouched left left' faults faults'
   pub nothing : Took old new []
 
--- the words ask for a command, which may answer so after it read so
-abbrev pub IsAsked : List (List ℕ) → Option (List ℕ) → Option (List ℕ) → Type 0 → Type 0 → Option (List ℕ) → Option (List ℕ) → Status → Type 0
-IsAsked words left left' ReadRose WriteRose old new status =
-    (c : Command) × IsForm c words × MayAnswer c left ReadRose WriteRose old new status × MayRead c left left' status
+-- the words ask for a command, which ends so after it read so
+pub record IsAsked (words : List (List ℕ)) (left left' : Option (List ℕ)) (faults faults' : ℕ) (ReadRose WriteRose : Type 0) (old new : Option (List ℕ)) (status : Status)
+  : Type 0 where
+  pub command : Command
+  pub words_are : IsForm command words
+  pub ends : EndsBy (kind_of status) command (given (reads command) left) ReadRose WriteRose old new status
+  pub read : MayRead (reads command) (kind_of status) left left' faults faults'
+
+-- what a call may answer
+abbrev pub MayAnswer : List (List ℕ) → Option (List ℕ) → Option (List ℕ) → ℕ → ℕ → Type 0 → Type 0 → Option (List ℕ) → Option (List ℕ) → Status → Type 0
+MayAnswer words left left' faults faults' ReadRose WriteRose old new status =
+    IsUnasked words left left' faults faults' old new status
+    ⊎ IsAsked words left left' faults faults' ReadRose WriteRose old new status
 
 -- a prefix of the text was taken, or all of it
 abbrev pub TookUpTo : Option (List ℕ) → Option (List ℕ) → List ℕ → Type 0
 TookUpTo old new text = TookPart old new text ⊎ Took old new text
 
--- the statuses that come where a stream fails or memory runs out
-abbrev pub IsExcused : Status → Type 0
-IsExcused Done = ⊥
-IsExcused (Malformed line kind) = ⊥
-IsExcused (Large what) = ⊥
-IsExcused (Rejected condition) = ⊥
-IsExcused Unbuilt = ⊥
-IsExcused Usage = ⊥
-IsExcused ReadFault = Unit {0}
-IsExcused WriteFault = Unit {0}
-IsExcused Memory = Unit {0}
+-- a call ends so, with the line of its status on `notes`: `noted` and `noted'` are what that took, `NoteRose` that its count rose
+pub record IsCall (words : List (List ℕ)) (left left' : Option (List ℕ)) (faults faults' : ℕ) (ReadRose WriteRose NoteRose : Type 0) (old new noted noted' : Option (List ℕ))
+  (status : Status) : Type 0 where
+  pub answers : MayAnswer words left left' faults faults' ReadRose WriteRose old new status
+  pub notes : TookUpTo noted noted' (note_of status)
+  pub whole_note : NoteRose ⊎ Took noted noted' (note_of status)

@@ -4,17 +4,13 @@ use Rattle.sc_theory.specs.Fatgraphs.{IsFatgraph, IsLeast}
 use Rattle.sc_fraction.specs.Quotient.{quotient_text}
 use Rattle.sc_text.specs.Faults.{IsFirstFault}
 use Rattle.sc_text.specs.ValueLines.{Quotient}
-use Rattle.sc_certificate.specs.Certificates.{Certificate, certificate_text, certificate_plan, IsCertificateInRange}
+use Rattle.sc_certificate.specs.Certificates.{Certificate, certificate_plan}
 use Rattle.sc_prices.specs.Conditions.{HasItsValue, AllHold, IsFirstFailing}
 use Rattle.sc_app.specs.Notes.{line}
 use Rattle.sc_app.specs.Rejections.{rejection}
+use Rattle.sc_app.specs.Said.{IsCertificateText}
 use Rattle.sc_app.specs.declared.status.Status.{Status}
-use Rattle.sc_app.specs.declared.status.Status.TheVariants.{Done, Usage, Malformed, Large, ReadFault, WriteFault, Memory, Rejected, Unbuilt}
-
--- the input is the text of the certificate
-pub record IsCertificateText (input : List ℕ) (v : Certificate) : Type 0 where
-  pub text : input ≡ certificate_text v
-  pub in_range : IsCertificateInRange v
+use Rattle.sc_app.specs.declared.status.Status.TheVariants.{Done, Malformed, Rejected}
 
 -- how the line of a value begins
 abbrev pub optimal_label : List ℕ
@@ -31,12 +27,17 @@ CheckResponds input (Malformed at kind) text = IsFirstFault certificate_plan inp
 CheckResponds input (Rejected condition) text =
     (v : Certificate) × IsCertificateText input v × IsFirstFailing v condition × (text ≡ rejection condition)
 CheckResponds input Done text = (v : Certificate) × IsCertificateText input v × AllHold v × (text ≡ optimal v.value)
-CheckResponds input (Large what) text = ⊥
-CheckResponds input Usage text = ⊥
-CheckResponds input ReadFault text = ⊥
-CheckResponds input WriteFault text = ⊥
-CheckResponds input Memory text = ⊥
-CheckResponds input Unbuilt text = ⊥
+CheckResponds input _ text = ⊥
+
+-- the input is the text of a certificate
+abbrev pub CheckAccepts : List ℕ → Type 0
+CheckAccepts input = (v : Certificate) × IsCertificateText input v
+
+-- what `check` may answer to an input that it accepts
+abbrev pub IsCheckStatus : Status → Type 0
+IsCheckStatus Done = Unit {0}
+IsCheckStatus (Rejected condition) = Unit {0}
+IsCheckStatus _ = ⊥
 
 -- what the line of a value tells: the input is the text of a certificate with a labelled fatgraph that is least, and the
 -- text is the line of the certificate's value, which is that of the fatgraph

@@ -1,8 +1,12 @@
 pub mod Forms
+pub mod Kinds
 pub mod Codes
 pub mod Notes
 pub mod Rejections
-pub mod Check
+pub mod Answer
+pub mod Reading
+pub mod Said
 pub mod Surface
+pub mod Check
 pub mod Scl
 pub mod Answers

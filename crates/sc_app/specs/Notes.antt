@@ -16,24 +16,24 @@ abbrev pub usage : List ℕ
 usage = codes "surface | check | scl"
 
 -- the word for a kind of fault
-abbrev pub name_of : Kind → List ℕ
-name_of Coefficient = codes "coefficient"
-name_of MissingWord = codes "missing-word"
-name_of Letter = codes "letter"
-name_of Extra = codes "extra"
-name_of NotAscii = codes "not-ascii"
-name_of Separator = codes "separator"
-name_of Form = codes "form"
-name_of Range = codes "range"
-name_of NotReduced = codes "not-reduced"
-name_of Ended = codes "ended"
-name_of Rest = codes "rest"
+abbrev pub kind_name : Kind → List ℕ
+kind_name Coefficient = codes "coefficient"
+kind_name MissingWord = codes "missing-word"
+kind_name Letter = codes "letter"
+kind_name Extra = codes "extra"
+kind_name NotAscii = codes "not-ascii"
+kind_name Separator = codes "separator"
+kind_name Form = codes "form"
+kind_name Range = codes "range"
+kind_name NotReduced = codes "not-reduced"
+kind_name Ended = codes "ended"
+kind_name Rest = codes "rest"
 
 -- nothing for Done, else one line
 abbrev pub note_of : Status → List ℕ
 note_of Done = []
 note_of Usage = line (codes "scallop: usage: " ++ usage)
-note_of (Malformed at kind) = line (codes "scallop: malformed line " ++ natural_spelling at ++ 32 ∷ name_of kind)
+note_of (Malformed at kind) = line (codes "scallop: malformed line " ++ natural_spelling at ++ 32 ∷ kind_name kind)
 note_of (Large Bytes) = line (codes "scallop: large bytes")
 note_of (Large (Words count)) = line (codes "scallop: large words " ++ natural_spelling count)
 note_of (Large (Positions count)) = line (codes "scallop: large positions " ++ natural_spelling count)

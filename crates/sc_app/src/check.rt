@@ -2,12 +2,11 @@
 
 ghost use Rattle.std.specs.Prelude.{◌≡◌, IfOk};
 ghost use Rattle.sc_fraction.specs.Frac.{numerator, denominator};
+ghost use Rattle.sc_app.specs.Answer.{status_of, text_of};
 ghost use Rattle.sc_app.specs.Check.{CheckResponds, optimal};
 
 use crate::answer::Answer;
 use crate::rejection::rejected;
-use crate::status::Status;
-use sc_chain::TextFault;
 use sc_fraction::Frac;
 use sc_prices::{Certificate, Verdict};
 use std::alloc::{AllocError, Global};
@@ -25,20 +24,14 @@ fn optimal_text(alloc: Global, value: &Frac) -> Result<Vec<u8>, AllocError>
 /// Reads a certificate and answers its value where its conditions all hold, so that its surface is least, or else the
 /// first condition that fails.
 pub fn answer_check(alloc: Global, input: &[u8]) -> Result<Answer, AllocError>
-    ensures { IfOk result (λ answer. CheckResponds input.now answer.status answer.text.items) }
+    ensures { IfOk result (λ answer. CheckResponds input.now (status_of answer) (text_of answer)) }
 {
     let certificate = match Certificate::read(alloc, input) {
         Ok(certificate) => certificate,
-        Err(TextFault::Malformed { line, kind }) => {
-            return Ok(Answer::without_text(alloc, Status::Malformed { line, kind }));
-        }
-        Err(TextFault::Memory) => return Err(AllocError),
+        Err(fault) => return Answer::to_fault(fault),
     };
     match certificate.judge(alloc)? {
-        Verdict::Optimal(value) => Ok(Answer {
-            status: Status::Done,
-            text: optimal_text(alloc, &value)?,
-        }),
+        Verdict::Optimal(value) => Ok(Answer::Text(optimal_text(alloc, &value)?)),
         Verdict::Rejected(condition) => rejected(alloc, condition),
     }
 }

@@ -2,20 +2,27 @@
 #![tactic(auto)]
 
 mod answer;
+mod arguments;
 mod check;
 mod command;
+mod laws;
 pub mod limits;
 mod note;
 mod printing;
 mod program;
 mod rejection;
+mod said;
 mod scl;
 mod status;
 mod surface;
 
-pub use command::{Command, command_of};
-pub use program::{an_input_has_one_answer, run};
+pub use arguments::words_of_program;
+pub use command::{Command, Reading, command_of};
+pub use laws::{an_input_has_an_answer, an_input_has_at_most_one_answer};
+pub use program::{run, run_to_code};
 pub use status::{Status, What};
 
+#[cfg(test)]
+mod near_limits;
 #[cfg(test)]
 mod tests;

@@ -1,7 +1,15 @@
 //! The most bytes that a command reads.
 
+ghost use Rattle.std.specs.Prelude.{◌≡◌};
+
 /// The bytes of the text of a surface or a certificate.
 pub const MAX_TEXT_BYTES: usize = 67_108_864;
 
 /// The bytes of a chain text.
 pub const MAX_CHAIN_BYTES: usize = 65_536;
+
+/// The numbers of the limits.
+pub fn numbers()
+    ensures text_bytes { MAX_TEXT_BYTES ≡ 67108864 }
+    ensures chain_bytes { MAX_CHAIN_BYTES ≡ 65536 }
+{}

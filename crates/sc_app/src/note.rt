@@ -3,7 +3,7 @@
 ghost use Rattle.std.specs.Prelude.{◌≡◌, ◌≤◌, [], ◌∷◌, ◌++◌, Option, OnOk, OnErr, IsTrue};
 ghost use Rattle.sc_outside.specs.Faults.{Rose};
 ghost use Rattle.sc_outside.specs.Told.{Took, TookPart};
-ghost use Rattle.sc_app.specs.Notes.{name_of, note_of, number_text, text_of};
+ghost use Rattle.sc_app.specs.Notes.{kind_name, note_of, number_text, text_of};
 
 use crate::status::{Status, What};
 use itoa::Buffer;
@@ -29,7 +29,7 @@ fn plain(before: &'static [u8]) -> Note
 }
 
 fn malformed_end(kind: Kind) -> &'static [u8]
-    ensures { result.now ≡ 32 ∷ name_of kind ++ 10 ∷ [] }
+    ensures { result.now ≡ 32 ∷ kind_name kind ++ 10 ∷ [] }
 {
     match kind {
         Kind::Coefficient => b" coefficient\n",

@@ -1,20 +1,25 @@
 //! The top call.
 
-ghost use Rattle.std.specs.Prelude.{◌≡◌, ◌↔◌, ◌⊎◌, ℕ, List, [], IfOk, IfSome, ◌≤◌, length};
+ghost use Rattle.std.specs.Prelude.{◌≡◌, ◌↔◌, ◌⊎◌, ℕ, List, [], Some, IsNone, IfOk, IfSome, ◌≤◌, ◌+◌, ◌<◌, ◌^◌};
 ghost use Rattle.sc_outside.specs.Faults.{Rose};
 ghost use Rattle.sc_outside.specs.Told.{Took, TookPart};
-ghost use Rattle.sc_app.specs.Forms.{IsForm, bytes_of};
+ghost use Rattle.sc_app.specs.Answer.{status_of, text_of};
+ghost use Rattle.sc_app.specs.Codes.{code_of};
+ghost use Rattle.sc_app.specs.Forms.{IsForm, HasNoForm, bytes_of};
+ghost use Rattle.sc_app.specs.Kinds.{kind_of, IsDecided, IsQuiet, IsReadToTheEnd, IsExcused};
+ghost use Rattle.sc_app.specs.Reading.{reads, given, input_for, most_turns, most_calls, Fits, MayRead, NeedsNoSource, ReadsAll, ReadPastLimit, ReadWithinLimit, IsUntouched};
 ghost use Rattle.sc_app.specs.Notes.{note_of};
-ghost use Rattle.sc_app.specs.Answers.{limit_of, Responds, Answers, HasNoForm, IsDecided, IsQuiet, MayAnswer, MayRead, ReadWhole, ReadPastLimit, ReadWithinLimit, IsReadToTheEnd, IsAsked, IsUnasked, IsExcused, TookUpTo};
+ghost use Rattle.sc_app.specs.Answers.{Responds, Answers, HasOneAnswer, IsAccepted, IsOwnAnswer, EndsBy, MayAnswer, TookUpTo, IsCall};
 ghost use Rattle.sc_app.specs.Check.{ShowsLeast};
+ghost use Rattle.sc_app.specs.Scl.{ShowsInfinite};
 ghost use Rattle.sc_app.specs.declared.command.Command.{Command as AnyCommand};
 ghost use Rattle.sc_app.specs.declared.command.Command.TheVariants as commands;
+ghost use Rattle.sc_app.specs.declared.command.Reading.TheVariants as readings;
 ghost use Rattle.sc_app.specs.declared.status.Status.{Status as AnyStatus};
 
 use crate::answer::Answer;
 use crate::check::answer_check;
-use crate::command::{Command, command_of};
-use crate::limits::{MAX_CHAIN_BYTES, MAX_TEXT_BYTES};
+use crate::command::{Command, Reading, command_of};
 use crate::note::write_note;
 use crate::scl::answer_scl;
 use crate::status::{Status, What};
@@ -22,19 +27,10 @@ use crate::surface::answer_surface;
 use sc_outside::{ReadAll, Sink, Source, read_all, write_all};
 use std::alloc::{AllocError, Global};
 
-fn limit_of_command(command: Command) -> usize
-    ensures { result ≡ limit_of command }
-{
-    match command {
-        Command::Surface | Command::Check => MAX_TEXT_BYTES,
-        Command::Scl => MAX_CHAIN_BYTES,
-    }
-}
-
 /// The answer of a command to its input.
 fn respond(alloc: Global, command: Command, input: &[u8]) -> Result<Answer, AllocError>
-    requires { length input.now ≤ limit_of command }
-    ensures { IfOk result (λ answer. Responds command input.now answer.status answer.text.items) }
+    requires { Fits (reads command) input.now }
+    ensures { IfOk result (λ answer. Responds command input.now (status_of answer) (text_of answer)) }
 {
     match command {
         Command::Surface => answer_surface(alloc, input),
@@ -45,32 +41,68 @@ fn respond(alloc: Global, command: Command, input: &[u8]) -> Result<Answer, Allo
 
 /// Hands over the text of an answer.
 fn deliver<O: Sink>(answer: &Answer, out: &mut O) -> Status
-    ensures { ((result ≡ answer.now.status) × Took (O.taken out.old) (O.taken out.new) answer.now.text.items)
+    ensures { ((result ≡ status_of answer.now) × Took (O.taken out.old) (O.taken out.new) (text_of answer.now))
         ⊎ ((result ≡ Status.WriteFault) × Rose (O.faults out.old) (O.faults out.new) (O.stands out.new)
-        × TookPart (O.taken out.old) (O.taken out.new) answer.now.text.items) }
+        × TookPart (O.taken out.old) (O.taken out.new) (text_of answer.now)) }
 {
-    match write_all(out, answer.text.as_slice()) {
-        Ok(()) => answer.status,
+    match write_all(out, answer.text()) {
+        Ok(()) => answer.status(),
         Err(_) => Status::WriteFault,
     }
 }
 
-fn serve<S: Source, O: Sink>(alloc: Global, command: Command, source: &mut S, out: &mut O) -> Status
-    ensures read { MayRead command (S.left source.old) (S.left source.new) result }
-    ensures answer { MayAnswer command (S.left source.old)
+/// Answers the input that a command was given.
+fn answer_input<O: Sink>(alloc: Global, command: Command, input: &[u8], out: &mut O) -> Status
+    requires { Fits (reads command) input.now }
+    ensures read { NeedsNoSource (kind_of result) }
+    ensures answer { EndsBy (kind_of result) command (Some input.now) ⊥
+        (Rose (O.faults out.old) (O.faults out.new) (O.stands out.new))
+        (O.taken out.old) (O.taken out.new) result }
+{
+    match respond(alloc, command, input) {
+        Ok(answer) => deliver(&answer, out),
+        Err(_) => Status::Memory,
+    }
+}
+
+/// Reads at most so many bytes and answers them.
+fn serve_input<S: Source, O: Sink>(
+    alloc: Global,
+    command: Command,
+    limit: usize,
+    source: &mut S,
+    out: &mut O,
+) -> Status
+    requires limit { reads command ≡ readings.AtMost limit }
+    requires readable { limit < 2 ^ 31 }
+    ensures turns { S.calls source.new ≤ S.calls source.old + limit + 1 }
+    ensures read { MayRead (readings.AtMost limit) (kind_of result) (S.left source.old) (S.left source.new)
+        (S.faults source.old) (S.faults source.new) }
+    ensures answer { EndsBy (kind_of result) command (S.left source.old)
         (Rose (S.faults source.old) (S.faults source.new) (S.stands source.new))
         (Rose (O.faults out.old) (O.faults out.new) (O.stands out.new))
         (O.taken out.old) (O.taken out.new) result }
 {
-    let input = match read_all(alloc, source, limit_of_command(command)) {
-        Ok(input) => input,
-        Err(ReadAll::Long) => return Status::Large(What::Bytes),
-        Err(ReadAll::ReadFault) => return Status::ReadFault,
-        Err(ReadAll::Memory) => return Status::Memory,
-    };
-    match respond(alloc, command, input.as_slice()) {
-        Ok(answer) => deliver(&answer, out),
-        Err(_) => Status::Memory,
+    match read_all(alloc, source, limit) {
+        Ok(input) => answer_input(alloc, command, input.as_slice(), out),
+        Err(ReadAll::Long) => Status::Large(What::Bytes),
+        Err(ReadAll::ReadFault) => Status::ReadFault,
+        Err(ReadAll::Memory) => Status::Memory,
+    }
+}
+
+fn serve<S: Source, O: Sink>(alloc: Global, command: Command, source: &mut S, out: &mut O) -> Status
+    ensures turns { S.calls source.new ≤ S.calls source.old + most_calls (reads command) }
+    ensures read { MayRead (reads command) (kind_of result) (S.left source.old) (S.left source.new)
+        (S.faults source.old) (S.faults source.new) }
+    ensures answer { EndsBy (kind_of result) command (given (reads command) (S.left source.old))
+        (Rose (S.faults source.old) (S.faults source.new) (S.stands source.new))
+        (Rose (O.faults out.old) (O.faults out.new) (O.stands out.new))
+        (O.taken out.old) (O.taken out.new) result }
+{
+    match command.reads() {
+        Reading::Nothing => answer_input(alloc, command, &[], out),
+        Reading::AtMost(limit) => serve_input(alloc, command, limit, source, out),
     }
 }
 
@@ -81,9 +113,9 @@ fn serve_words<S: Source, O: Sink>(
     source: &mut S,
     out: &mut O,
 ) -> Status
-    ensures { IsUnasked (bytes_of words.now.items) (S.left source.old) (S.left source.new) (S.faults source.old) (S.faults source.new)
-        (O.taken out.old) (O.taken out.new) result
-        ⊎ IsAsked (bytes_of words.now.items) (S.left source.old) (S.left source.new)
+    ensures turns { S.calls source.new ≤ S.calls source.old + most_turns (bytes_of words.now.items) }
+    ensures answer { MayAnswer (bytes_of words.now.items) (S.left source.old) (S.left source.new)
+        (S.faults source.old) (S.faults source.new)
         (Rose (S.faults source.old) (S.faults source.new) (S.stands source.new))
         (Rose (O.faults out.old) (O.faults out.new) (O.stands out.new))
         (O.taken out.old) (O.taken out.new) result }
@@ -106,12 +138,18 @@ pub fn run<S: Source, O: Sink, E: Sink>(
     // Usage exactly where the words match no form; then nothing was read.
     ensures usage { (result ≡ Status.Usage) ↔ HasNoForm (bytes_of words.now.items) }
     ensures unread { result ≡ Status.Usage → (S.left source.new ≡ S.left source.old) × (S.faults source.new ≡ S.faults source.old) }
+    // Nor is anything read for a command that reads nothing, whatever its status.
+    ensures untouched { (c : AnyCommand) → IsForm c (bytes_of words.now.items) → reads c ≡ readings.Nothing
+        → IsUntouched (S.left source.old) (S.left source.new) (S.faults source.old) (S.faults source.new) }
+    // The source is asked at most once a byte of the command's limit and once more, and not at all where nothing is read.
+    ensures turns { S.calls source.new ≤ S.calls source.old + most_turns (bytes_of words.now.items) }
 
     // After Large(Bytes) the source gave one byte more than the limit, with the answers to what it had every byte, and before
     // Memory not more than the limit. What a source gives in a call that fails is its own affair.
     ensures read_past_limit { result ≡ Status.Large What.Bytes → (c : AnyCommand)
         × IsForm c (bytes_of words.now.items) × ReadPastLimit c (S.left source.old) (S.left source.new) }
-    ensures read_whole { IsReadToTheEnd result → ReadWhole (S.left source.old) (S.left source.new) }
+    ensures read_whole { IsReadToTheEnd result → (c : AnyCommand)
+        × IsForm c (bytes_of words.now.items) × ReadsAll (reads c) (S.left source.old) (S.left source.new) }
     ensures read_within_limit { result ≡ Status.Memory → (c : AnyCommand)
         × IsForm c (bytes_of words.now.items) × ReadWithinLimit c (S.left source.old) (S.left source.new) }
 
@@ -119,18 +157,29 @@ pub fn run<S: Source, O: Sink, E: Sink>(
     ensures read_fault { result ≡ Status.ReadFault → Rose (S.faults source.old) (S.faults source.new) (S.stands source.new) }
     ensures write_fault { result ≡ Status.WriteFault → Rose (O.faults out.old) (O.faults out.new) (O.stands out.new) }
 
-    // Where the source tells its bytes, every other status but Memory is the answer to them, and `out` took its text.
-    ensures answered { IsDecided result → IfSome (S.left source.old) (λ input. (text : List ℕ)
-        × Answers (bytes_of words.now.items) input result text × Took (O.taken out.old) (O.taken out.new) text) }
-    // The answer to the input is what comes, unless a stream fails or memory runs out. (There is one: `an_input_has_one_answer`.)
-    ensures complete { IfSome (S.left source.old) (λ input. (status : AnyStatus) (text : List ℕ)
+    // Where the input is told, every other status but Memory is an answer to it, and `out` took its text.
+    ensures answered { IsDecided result → IfSome (input_for (bytes_of words.now.items) (S.left source.old)) (λ input.
+        (text : List ℕ) × Answers (bytes_of words.now.items) input result text × Took (O.taken out.old) (O.taken out.new) text) }
+    // Where the input has one right answer, that is what comes, unless a stream fails or memory runs out.
+    ensures complete { IfSome (input_for (bytes_of words.now.items) (S.left source.old)) (λ input.
+        HasOneAnswer (bytes_of words.now.items) input → (status : AnyStatus) (text : List ℕ)
         → Answers (bytes_of words.now.items) input status text
         → ((result ≡ status) × Took (O.taken out.old) (O.taken out.new) text) ⊎ IsExcused result) }
+    // To an input that the command accepts an answer of its own comes where no stream fails, or there was no memory.
+    ensures completed { (c : AnyCommand) → IsForm c (bytes_of words.now.items)
+        → IfSome (given (reads c) (S.left source.old)) (λ input. IsAccepted c input
+        → ¬ Rose (S.faults source.old) (S.faults source.new) (S.stands source.new)
+        → ¬ Rose (O.faults out.old) (O.faults out.new) (O.stands out.new)
+        → IsOwnAnswer c input (O.taken out.old) (O.taken out.new) result ⊎ (result ≡ Status.Memory)) }
     // Where `check` is done, `out` took the value of a certificate whose surface is least over its chain.
     ensures least { result ≡ Status.Done → IsForm commands.Check (bytes_of words.now.items) → IfSome (S.left source.old)
         (λ input. (text : List ℕ) × ShowsLeast input text × Took (O.taken out.old) (O.taken out.new) text) }
-    // After a fault of `out` it has taken a part of the text of the answer.
-    ensures broken { result ≡ Status.WriteFault → IfSome (S.left source.old) (λ input. (status : AnyStatus) × (text : List ℕ)
+    // Where `scl` is done, `out` took the first generator whose total over the lines as written isn't 0, with that total.
+    ensures infinite { result ≡ Status.Done → IsForm commands.Scl (bytes_of words.now.items) → IfSome (S.left source.old)
+        (λ input. (text : List ℕ) × ShowsInfinite input text × Took (O.taken out.old) (O.taken out.new) text) }
+    // After a fault of `out` it has taken a part of the text of an answer.
+    ensures broken { result ≡ Status.WriteFault → IfSome (input_for (bytes_of words.now.items) (S.left source.old)) (λ input.
+        (status : AnyStatus) × (text : List ℕ)
         × Answers (bytes_of words.now.items) input status text × TookPart (O.taken out.old) (O.taken out.new) text) }
     // Nothing goes to `out` with a status that has no text.
     ensures quiet { IsQuiet result → Took (O.taken out.old) (O.taken out.new) [] }
@@ -139,16 +188,43 @@ pub fn run<S: Source, O: Sink, E: Sink>(
     ensures noted { TookUpTo (E.taken notes.old) (E.taken notes.new) (note_of result) }
     ensures whole_note { Rose (E.faults notes.old) (E.faults notes.new) (E.stands notes.new)
         ⊎ Took (E.taken notes.old) (E.taken notes.new) (note_of result) }
+
+    // All this in one: how the words, the three streams and the status go together.
+    ensures call { IsCall (bytes_of words.now.items) (S.left source.old) (S.left source.new)
+        (S.faults source.old) (S.faults source.new)
+        (Rose (S.faults source.old) (S.faults source.new) (S.stands source.new))
+        (Rose (O.faults out.old) (O.faults out.new) (O.stands out.new))
+        (Rose (E.faults notes.old) (E.faults notes.new) (E.stands notes.new))
+        (O.taken out.old) (O.taken out.new) (E.taken notes.old) (E.taken notes.new) result }
 {
     let status = serve_words(alloc, words, source, out);
     let _ = write_note(&status, notes);
     status
 }
 
-/// No input has two answers: the same words and the same input give one status and one text.
-pub fn an_input_has_one_answer()
-    ensures status { (words : List (List ℕ)) (input text other : List ℕ) (status elsewise : AnyStatus) → Answers words input status text
-        → Answers words input elsewise other → status ≡ elsewise }
-    ensures text { (words : List (List ℕ)) (input text other : List ℕ) (status elsewise : AnyStatus) → Answers words input status text
-        → Answers words input elsewise other → text ≡ other }
-{}
+/// What the program does with its words and its streams: it runs them and ends with the code of the status. Where the words
+/// couldn't be had for want of memory, it ends with the code of that and leaves the streams alone.
+pub fn run_to_code<S: Source, O: Sink, E: Sink>(
+    alloc: Global,
+    words: Option<Vec<String>>,
+    source: &mut S,
+    out: &mut O,
+    notes: &mut E,
+) -> u8
+    ensures no_words { IsNone words → (result ≡ 10) × (S.calls source.new ≡ S.calls source.old)
+        × IsUntouched (S.left source.old) (S.left source.new) (S.faults source.old) (S.faults source.new)
+        × Took (O.taken out.old) (O.taken out.new) [] × Took (E.taken notes.old) (E.taken notes.new) [] }
+    ensures turns { IfSome words (λ all. S.calls source.new ≤ S.calls source.old + most_turns (bytes_of all.items)) }
+    ensures ran { IfSome words (λ all. (status : AnyStatus) × (result ≡ code_of status)
+        × IsCall (bytes_of all.items) (S.left source.old) (S.left source.new)
+        (S.faults source.old) (S.faults source.new)
+        (Rose (S.faults source.old) (S.faults source.new) (S.stands source.new))
+        (Rose (O.faults out.old) (O.faults out.new) (O.stands out.new))
+        (Rose (E.faults notes.old) (E.faults notes.new) (E.stands notes.new))
+        (O.taken out.old) (O.taken out.new) (E.taken notes.old) (E.taken notes.new) status) }
+{
+    match words {
+        Some(words) => run(alloc, &words, source, out, notes).code(),
+        None => Status::Memory.code(),
+    }
+}

@@ -4,11 +4,12 @@ ghost use Rattle.std.specs.Prelude.{◌≡◌, ◌++◌, pos, IfOk, OnOk};
 ghost use Rattle.sc_whole.specs.Spelling.{spelling};
 ghost use Rattle.sc_prices.specs.declared.flaws.TableFlaw.TheVariants as table_flaws;
 ghost use Rattle.sc_prices.specs.declared.verdict.Condition.TheVariants as conditions;
+ghost use Rattle.sc_app.specs.declared.status.Status.TheVariants as statuses;
 ghost use Rattle.sc_app.specs.Rejections.{flaw_label, rejection};
+ghost use Rattle.sc_app.specs.Answer.{status_of, text_of};
 
 use crate::answer::Answer;
 use crate::printing::append_number_line;
-use crate::status::Status;
 use sc_fatgraph::FlawKind;
 use sc_prices::{Condition, TableFlaw};
 use sc_whole::print_decimal;
@@ -68,13 +69,10 @@ fn append_rejection(out: &mut Vec<u8>, condition: Condition) -> Result<(), Alloc
 
 /// The answer of a condition that fails.
 pub fn rejected(alloc: Global, condition: Condition) -> Result<Answer, AllocError>
-    ensures status { IfOk result (λ answer. answer.status ≡ Status.Rejected condition) }
-    ensures text { IfOk result (λ answer. answer.text.items ≡ rejection condition) }
+    ensures status { IfOk result (λ answer. status_of answer ≡ statuses.Rejected condition) }
+    ensures text { IfOk result (λ answer. text_of answer ≡ rejection condition) }
 {
     let mut text = Vec::new(alloc);
     append_rejection(&mut text, condition)?;
-    Ok(Answer {
-        status: Status::Rejected(condition),
-        text,
-    })
+    Ok(Answer::Rejection { condition, text })
 }

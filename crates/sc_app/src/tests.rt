@@ -1,9 +1,9 @@
 //! The program from bytes to bytes.
 
-use crate::{Command, Status, What, command_of, run};
+use crate::{Command, Reading, Status, What, command_of, run, run_to_code};
 use sc_chain::Kind;
 use sc_fatgraph::FlawKind;
-use sc_outside::{MemorySink, MemorySource};
+use sc_outside::{MemorySink, MemorySource, StdSink, StdSource};
 use sc_prices::{Condition, TableFlaw};
 use std::alloc::{AllocError, Global};
 use std::test::Fail;
@@ -348,6 +348,7 @@ fn knows_its_forms_and_codes(rt: HostRuntime) -> Result<(), Fail> {
     assert_eq!(rt; command_of(&words), Some(Command::Check));
     words.push(String::from_str(rt.alloc(), "x")?)?;
     assert_eq!(rt; command_of(&words), None);
+    assert_eq!(rt; Command::Scl.reads(), Reading::AtMost(65_536));
     for (status, code) in [
         (Status::Done, 0),
         (Status::ReadFault, 8),
@@ -355,5 +356,43 @@ fn knows_its_forms_and_codes(rt: HostRuntime) -> Result<(), Fail> {
     ] {
         assert_eq!(rt; status.code(), code);
     }
+    Ok(())
+}
+
+/// The code that a call over std's streams ends with, what `out` took and what `notes` took.
+fn code(
+    alloc: Global,
+    words: Option<Vec<String>>,
+    input: &[u8],
+) -> Result<(u8, Vec<u8>, Vec<u8>), AllocError> {
+    let mut out = Vec::new(alloc);
+    let mut notes = Vec::new(alloc);
+    let code = run_to_code(
+        alloc,
+        words,
+        &mut StdSource::new(input),
+        &mut StdSink::telling(&mut out),
+        &mut StdSink::telling(&mut notes),
+    );
+    Ok((code, out, notes))
+}
+
+#[test]
+fn ends_with_the_code_of_the_status(rt: HostRuntime) -> Result<(), Fail> {
+    let usage = b"scallop: usage: surface | check | scl\n".as_slice();
+    let report = b"vertices 1\nedges 2\neuler -1\nfraction 1/2\n".as_slice();
+    let (ended, written, noted) = code(rt.alloc(), None, COMMUTATOR)?;
+    assert_eq!(rt; ended, 10);
+    assert!(rt; written.is_empty() && noted.is_empty());
+    let (ended, written, noted) = code(rt.alloc(), Some(Vec::new(rt.alloc())), COMMUTATOR)?;
+    assert_eq!(rt; ended, 2);
+    assert!(rt; written.is_empty());
+    assert_eq!(rt; noted.as_slice(), usage);
+    let mut words = Vec::new(rt.alloc());
+    words.push(String::from_str(rt.alloc(), "surface")?)?;
+    let (ended, written, noted) = code(rt.alloc(), Some(words), COMMUTATOR)?;
+    assert_eq!(rt; ended, 0);
+    assert_eq!(rt; written.as_slice(), report);
+    assert!(rt; noted.is_empty());
     Ok(())
 }

@@ -2,6 +2,7 @@ use Rattle.std.proofs.Common.{◌≤◌, length, arith, subst, ◌∙◌, ap}
 use Rattle.std.proofs.lemmas.Result.{IfOk-weaker}
 use Rattle.sc_reduce.specs.Lines.{letters_of, chain_of, IsWithin}
 use Rattle.sc_reduce.proofs.TextLetters.{letters_of_text}
+use Rattle.sc_app.specs.Answer.{status_of, text_of}
 use Rattle.sc_app.proofs.Reports.{valued}
 use Rattle.sc_app.proofs.scl.answer_scl.Goals as goal
 
@@ -14,5 +15,5 @@ pub returns-in-Ok-reduce_lines : goal.returns-in-Ok-reduce_lines
 returns-in-Ok-reduce_lines c =
     IfOk-weaker c.value_of.result _ _
     (λ answer h. valued c.args.input.now c.in-Ok.lines.items c.in-Ok-reduce_lines.chain c.in-Ok.ensures.ok (c.in-Ok-reduce_lines.ensures.ok ∙ ap chain_of c.as_slice.ensures.value)
-    (subst (λ lines. IsWithin (chain_of lines)) c.as_slice.ensures.value c.in-Ok-reduce_lines.ensures.within) answer.status answer.text.items h)
+    (subst (λ lines. IsWithin (chain_of lines)) c.as_slice.ensures.value c.in-Ok-reduce_lines.ensures.within) (status_of answer) (text_of answer) h)
     c.value_of.ensures

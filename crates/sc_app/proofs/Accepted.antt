@@ -1,0 +1,50 @@
+-- To an input that a command accepts it answers a status of its own.
+use Rattle.std.proofs.Common.{◌≡◌, ℕ, inl, inr, List, subst, arith}
+use Rattle.sc_chain.specs.declared.lines.RawLine.{RawLine}
+use Rattle.sc_reduce.specs.Lines.{chain_of, HasManyWords, HasManyPositions}
+use Rattle.sc_text.proofs.FaultLaws.{faultless_first}
+use Rattle.sc_certificate.specs.Certificates.{certificate_plan}
+use Rattle.sc_prices.specs.declared.verdict.Condition.TheVariants.{Flaw}
+use Rattle.sc_app.specs.declared.command.Command.{Command}
+use Rattle.sc_app.specs.declared.command.Command.TheVariants.{Surface, Check, Scl}
+use Rattle.sc_app.specs.declared.status.Status.{Status}
+use Rattle.sc_app.specs.declared.status.Status.TheVariants.{Done, Malformed, Large, Rejected, Unbuilt}
+use Rattle.sc_app.specs.declared.status.What.TheVariants.{Words, Positions}
+use Rattle.sc_app.specs.Surface.{SurfaceResponds, SurfaceAccepts, IsSurfaceStatus}
+use Rattle.sc_app.specs.Check.{CheckResponds, CheckAccepts, IsCheckStatus}
+use Rattle.sc_app.specs.Scl.{SclResponds, SclAccepts, IsSclStatus}
+use Rattle.sc_app.specs.Answers.{AnswersTo, IsAccepted, IsOwnStatus}
+use Rattle.sc_app.proofs.Inputs.{certificate_faultless, says_no_fault}
+use Rattle.sc_app.proofs.Chains.{good_or_malformed, same_lines}
+
+own_of_surface : (input text : List ℕ) (s : Status) → SurfaceAccepts input → SurfaceResponds input s text → IsSurfaceStatus s
+own_of_surface input text Done a r = tt
+own_of_surface input text (Rejected (Flaw kind place)) a r = tt
+own_of_surface input text (Malformed at kind) a r = absurd (says_no_fault input a.0 a.1 a.2 at kind a.3 r.0)
+own_of_surface input text _ a r = absurd r
+
+own_of_check : (input text : List ℕ) (s : Status) → CheckAccepts input → CheckResponds input s text → IsCheckStatus s
+own_of_check input text Done a r = tt
+own_of_check input text (Rejected condition) a r = tt
+own_of_check input text (Malformed at kind) a r = absurd (faultless_first certificate_plan input at kind (certificate_faultless input a.0 a.1) r.0)
+own_of_check input text _ a r = absurd r
+
+own_of_scl : (input text : List ℕ) (s : Status) → SclAccepts input → SclResponds input s text → IsSclStatus s
+own_of_scl input text Done a r = tt
+own_of_scl input text Unbuilt a r = tt
+own_of_scl input text (Malformed at kind) a r = absurd (good_or_malformed input a.0 at kind a.1 r.0)
+own_of_scl input text (Large (Words n)) a r =
+    let many = subst (λ (lines : List RawLine). HasManyWords (chain_of lines) n) (same_lines input r.0 a.0 r.1 a.1) r.2 in
+    absurd (omega (arith, many.many, a.2.few_words))
+own_of_scl input text (Large (Positions n)) a r =
+    let many = subst (λ (lines : List RawLine). HasManyPositions (chain_of lines) n) (same_lines input r.0 a.0 r.1 a.1) r.2 in
+    absurd (omega (arith, many.many, a.2.few_positions))
+own_of_scl input text _ a r = absurd r.3
+
+pub own_status : (c : Command) (input text : List ℕ) (s : Status) → IsAccepted c input → AnswersTo c input s text → IsOwnStatus c s
+own_status Surface input text s a (inl long) = absurd (omega (arith, a.0, long.0))
+own_status Surface input text s a (inr r) = own_of_surface input text s a.1 r.1
+own_status Check input text s a (inl long) = absurd (omega (arith, a.0, long.0))
+own_status Check input text s a (inr r) = own_of_check input text s a.1 r.1
+own_status Scl input text s a (inl long) = absurd (omega (arith, a.0, long.0))
+own_status Scl input text s a (inr r) = own_of_scl input text s a.1 r.1

@@ -1,9 +1,0 @@
-use Rattle.sc_app.proofs.OneAnswer.{one_answer, one_text_answer}
-use Rattle.sc_app.proofs.program.an_input_has_one_answer.Goals as goal
-
-pub returns : goal.returns
-returns c =
-    record {
-      status = λ words input text other status elsewise a b. one_answer words input text other status elsewise a b;
-      text = λ words input text other status elsewise a b. one_text_answer words input text other status elsewise a b;
-    }

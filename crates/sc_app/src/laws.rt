@@ -1,0 +1,21 @@
+//! Laws of the answers to inputs.
+
+ghost use Rattle.std.specs.Prelude.{◌≡◌, ℕ, List};
+ghost use Rattle.sc_app.specs.Forms.{IsForm};
+ghost use Rattle.sc_app.specs.Answers.{Answers, HasOneAnswer};
+ghost use Rattle.sc_app.specs.declared.command.Command.{Command};
+ghost use Rattle.sc_app.specs.declared.status.Status.{Status};
+
+/// No input that has one answer has two: the same words and the same input give one status and one text.
+pub fn an_input_has_at_most_one_answer()
+    ensures status { (words : List (List ℕ)) (input text other : List ℕ) (status elsewise : Status) → HasOneAnswer words input
+        → Answers words input status text → Answers words input elsewise other → status ≡ elsewise }
+    ensures text { (words : List (List ℕ)) (input text other : List ℕ) (status elsewise : Status) → HasOneAnswer words input
+        → Answers words input status text → Answers words input elsewise other → text ≡ other }
+{}
+
+/// No input is left without an answer: it can't be that none is one.
+pub fn an_input_has_an_answer()
+    ensures { (words : List (List ℕ)) (input : List ℕ) (c : Command) → IsForm c words
+        → ¬ ((status : Status) (text : List ℕ) → ¬ Answers words input status text) }
+{}
