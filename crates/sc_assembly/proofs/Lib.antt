@@ -4,3 +4,4 @@ pub mod SeedColumns
 pub mod Wholes
 pub mod Sizes
 pub mod PartLoops
+pub mod CountedParts

@@ -3,8 +3,10 @@
 #![tactic(auto)]
 
 mod counting;
+mod gluing;
 pub mod laws;
 mod parts;
 
 pub use counting::{PartsFault, multiples};
+pub use gluing::glue;
 pub use parts::{Multiples, Part};
