@@ -1,6 +1,6 @@
 //! The definitions at small surfaces, which tell them from near misses.
 
-ghost use Rattle.std.specs.Prelude.{ℕ, List, [], ◌∷◌};
+ghost use Rattle.std.specs.Prelude.{[], ◌∷◌};
 ghost use Rattle.sc_theory.specs.Examples.{commutator, torus, torus_by_steps, opposite_words, annulus};
 ghost use Rattle.sc_gluing.specs.Cycles.{copies_of};
 ghost use Rattle.sc_gluing.specs.Gluing.{IsGlued, AreBalanced};

@@ -1,13 +1,13 @@
 //! Cycles of positions laid one behind another.
 
-ghost use Rattle.std.specs.Prelude.{◌≡◌, ◌+◌, ◌*◌, ◌<◌, ◌≤◌, ◌^◌, [], length, OnOk, vec_len};
+ghost use Rattle.std.specs.Prelude.{◌≡◌, ◌+◌, ◌*◌, ◌<◌, ◌^◌, [], length, OnOk, vec_len};
 ghost use Rattle.sc_gluing.specs.Cycles.{round as place_round};
 ghost use Rattle.sc_gluing.specs.Laying.{AreLaid, LaysBehind};
 
 use std::alloc::{AllocError, Global};
 
 /// The sides along cycles of positions: the label of each, and the side that follows it round its cycle.
-#[derive(Drop)]
+#[derive(Debug, Drop)]
 pub struct Laid {
     pub labels: Vec<u32>,
     pub afters: Vec<u32>,

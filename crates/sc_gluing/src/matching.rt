@@ -1,7 +1,7 @@
 //! The matching of places whose kinds are opposite, in their order: in time and memory that grow with their number alone.
 //! The places of each kind are a linked list; a cursor a kind goes along it once.
 
-ghost use Rattle.std.specs.Prelude.{◌≡◌, ℕ, ◌<◌, ◌≤◌, ◌^◌, length, get_or, replicate, IfOk, vec_len};
+ghost use Rattle.std.specs.Prelude.{◌≡◌, ℕ, ◌<◌, ◌^◌, length, get_or, IfOk};
 ghost use Rattle.sc_gluing.specs.Matching.{ArePartners, AreMatchable, AreLinked, ArePaired};
 
 use std::alloc::{AllocError, Global};

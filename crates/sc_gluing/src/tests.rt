@@ -1,7 +1,5 @@
 //! Cycles laid and kinds matched, by lists worked out by hand.
 
-ghost use Rattle.std.specs.Prelude.{◌≡◌};
-
 use super::*;
 use std::alloc::AllocError;
 
