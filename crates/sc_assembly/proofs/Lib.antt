@@ -6,3 +6,4 @@ pub mod Sizes
 pub mod PartLoops
 pub mod CountedParts
 pub mod SmallParts
+pub mod OneMultiple

@@ -15,7 +15,7 @@ use Rattle.sc_assembly.specs.declared.parts.Part.{Part}
 use Rattle.sc_assembly.specs.Multiples.{IsTimes, IsLeastWhole, AreCounts, IsLeastCommon, HasManySides}
 use Rattle.sc_assembly.proofs.Wholes.{size, next_common, beyond}
 
-counts_last : (n : ℕ) (parts : List Part) (counts : List ℕ) (p : Part) (k : ℕ) → AreCounts n parts counts → IsTimes n p.value (pos k) → AreCounts n (parts ++ p ∷ []) (counts ++ k ∷ [])
+pub counts_last : (n : ℕ) (parts : List Part) (counts : List ℕ) (p : Part) (k : ℕ) → AreCounts n parts counts → IsTimes n p.value (pos k) → AreCounts n (parts ++ p ∷ []) (counts ++ k ∷ [])
 counts_last n [] [] p k are is = (is, tt)
 counts_last n [] (j ∷ counts) p k are is = absurd are
 counts_last n (q ∷ parts) [] p k are is = absurd are
