@@ -1,0 +1,7 @@
+pub mod Lines
+pub mod Standing
+pub mod Places
+pub mod Updates
+pub mod Fresh
+pub mod Evidence
+pub mod NewPrices
