@@ -1,5 +1,5 @@
 -- To an input that a command accepts it answers a status of its own.
-use Rattle.std.proofs.Common.{◌≡◌, ℕ, inl, inr, List, subst, arith}
+use Rattle.std.proofs.Common.{ℕ, inl, inr, List, subst, arith}
 use Rattle.sc_chain.specs.declared.lines.RawLine.{RawLine}
 use Rattle.sc_reduce.specs.Lines.{chain_of, HasManyWords, HasManyPositions}
 use Rattle.sc_text.proofs.FaultLaws.{faultless_first}

@@ -10,7 +10,7 @@ use Rattle.sc_app.specs.declared.status.What.TheVariants.{Bytes, Words, Position
 use Rattle.sc_app.specs.Forms.{IsForm, HasNoForm}
 use Rattle.sc_app.specs.Kinds.{StatusKind, WithText, WithoutText, PastLimit, Unasked, NotRead, NotWritten, NoMemory, kind_of, Decides, HasNoText, HadItsInput, Excuses, IsDecided, IsQuiet, IsReadToTheEnd, IsExcused}
 use Rattle.sc_app.specs.Reading.{reads, given, given_to, input_for, most_bytes, MayRead, ReadsAll, ReadPastLimit, ReadWithinLimit, IsUntouched}
-use Rattle.sc_app.specs.Answers.{AnswersTo, Answers, HasOneAnswer, IsAccepted, IsOwnAnswer, Delivers, Breaks, EndsBy, IsUnasked, IsAsked, MayAnswer}
+use Rattle.sc_app.specs.Answers.{Answers, HasOneAnswer, IsAccepted, IsOwnAnswer, Delivers, EndsBy, IsAsked, MayAnswer}
 use Rattle.sc_app.proofs.Forms.{one_command, no_command}
 use Rattle.sc_app.proofs.OneAnswer.{one_answer, one_text_answer}
 use Rattle.sc_app.proofs.Accepted.{own_status}

@@ -1,5 +1,5 @@
 -- A chain text has one list of lines, one first malformed line where it has any, and one first unbalanced generator.
-use Rattle.std.proofs.Common.{◌≡◌, ℕ, List, ℤ, pos, IsSome, is_some, None, Some, Option, inl, inr, refl, ap, ap₂, ◌∙◌, subst, sym, arith}
+use Rattle.std.proofs.Common.{◌≡◌, ℕ, List, ℤ, IsSome, is_some, None, Some, Option, inl, inr, ap, ap₂, ◌∙◌, subst, sym, arith}
 use Rattle.std.proofs.lemmas.Bool.{cases_lt, false≢true}
 use Rattle.sc_theory.specs.Chains.{Chain}
 use Rattle.sc_chain.specs.declared.fault.Kind.{Kind}

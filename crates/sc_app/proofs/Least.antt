@@ -1,5 +1,5 @@
 -- What the texts of commands that are done show: that of `check` that a surface is least, and that of `scl` an unbalanced generator.
-use Rattle.std.proofs.Common.{◌≡◌, ℕ, ◌⊎◌, inl, inr, List, Option, None, Some, IfSome, pos, ◌<ℤ◌, sym, ◌∙◌, arith}
+use Rattle.std.proofs.Common.{ℕ, inl, inr, List, Option, None, Some, IfSome, pos, ◌<ℤ◌, sym, ◌∙◌, arith}
 use Rattle.std.proofs.lemmas.Int.{ints}
 use Rattle.sc_theory.specs.Chains.{Chain, IsChain}
 use Rattle.sc_theory.proofs.Vouching.{covers}

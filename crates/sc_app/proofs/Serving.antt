@@ -1,5 +1,5 @@
 -- How a command ends, from what it responds and what the sink took.
-use Rattle.std.proofs.Common.{◌≡◌, ℕ, ◌+◌, ◌≤◌, ◌⊎◌, inl, inr, List, [], Option, None, Some, IfSome, length, drop, refl, subst, sym, ap, ◌∙◌, arith}
+use Rattle.std.proofs.Common.{◌≡◌, ℕ, ◌≤◌, ◌⊎◌, inl, inr, List, [], Option, None, Some, IfSome, length, subst, sym, arith}
 use Rattle.std.proofs.lemmas.List.{drop_all}
 use Rattle.sc_outside.specs.Told.{Delivered, Took, TookPart}
 use Rattle.sc_app.specs.declared.command.Command.{Command}

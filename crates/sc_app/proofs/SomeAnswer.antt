@@ -1,11 +1,11 @@
 -- No input is left without an answer.
-use Rattle.std.proofs.Common.{◌≡◌, ◌≢◌, ℕ, zero, suc, ◌*◌, ◌/◌, ◌<◌, ◌≤◌, ◌⊎◌, inl, inr, List, [], length, true, false, Option, None, Some, IsSome, ℤ, pos, ◌+◌, ◌*ℤ◌, unsigned_abs, int_div, refl, ap, sym, ◌∙◌, subst, arith}
+use Rattle.std.proofs.Common.{◌≡◌, ℕ, zero, suc, ◌*◌, ◌/◌, ◌<◌, ◌≤◌, ◌⊎◌, inl, inr, List, [], length, Option, None, Some, IsSome, ℤ, pos, ◌+◌, ◌*ℤ◌, unsigned_abs, int_div, refl, ap, sym, ◌∙◌, subst, arith}
 use Rattle.std.proofs.lemmas.Bool.{cases_Bool, cases_eq, cases_lt, cond-true, cond-false}
 use Rattle.std.proofs.lemmas.Int.{ints}
 use borrow.Author.Differences.{up, down}
 use Rattle.sc_theory.specs.Chains.{Chain, positions, chain_total, IsBalanced}
 use Rattle.sc_theory.specs.Fatgraphs.{Sides, IsFatgraph, cost}
-use Rattle.sc_theory.specs.Prices.{Vouch, IsTight}
+use Rattle.sc_theory.specs.Prices.{Vouch}
 use Rattle.sc_theory.proofs.Reduction.{cases_option}
 use Rattle.sc_chain.specs.declared.fault.Kind.{Kind}
 use Rattle.sc_chain.specs.declared.lines.RawLine.{RawLine}
@@ -29,7 +29,6 @@ use Rattle.sc_fatgraph.proofs.FlawLaws.{IsFlawlessBelow, flawless_none, flawless
 use Rattle.sc_prices.specs.declared.flaws.TableFlaw.{TableFlaw}
 use Rattle.sc_prices.specs.declared.flaws.TableFlaw.TheVariants.{Start, Step}
 use Rattle.sc_prices.specs.declared.verdict.Condition.TheVariants.{Flaw, Value, Table, NotTight}
-use Rattle.sc_prices.specs.Conditions.{HasItsValue, AllHold}
 use Rattle.sc_prices.specs.Flaws.{HasStartFlaw, HasStepFlaw, HasTableFlaw, IsBefore, IsFirstTableFlaw}
 use Rattle.sc_prices.specs.Rows.{start_of}
 use Rattle.sc_prices.proofs.TableFlaws.{flawless_vouch}
@@ -235,11 +234,11 @@ module _ (c : Chain) (letters : AreGenerators c) (never : (g : ℕ) (t : ℤ) �
         zero_total g below
         (none_at_all Unbalanced
         (λ h here before. never h (chain_total h c) (record {
-            in_range = here.0;
-            total_is = refl;
-            unbalanced = here.1;
-            least = λ k less. zero_total k (omega (arith, less, here.0)) (before k less);
-          })) g)
+          in_range = here.0;
+          total_is = refl;
+          unbalanced = here.1;
+          least = λ k less. zero_total k (omega (arith, less, here.0)) (before k less);
+        })) g)
   ]
 
 module _ (input : List ℕ) (none : (s : Status) (text : List ℕ) → ¬ SclResponds input s text) where

@@ -1,5 +1,5 @@
 -- What a call of the program may answer.
-use Rattle.std.specs.Prelude.{◌≡◌, ℕ, ◌+◌, ◌<◌, ◌≤◌, ◌⊎◌, List, [], length, Option, Some, IfSome}
+use Rattle.std.specs.Prelude.{◌≡◌, ℕ, ◌<◌, ◌≤◌, ◌⊎◌, List, [], length, Option, IfSome}
 use Rattle.sc_outside.specs.Told.{Took, TookPart}
 use Rattle.sc_app.specs.declared.command.Command.{Command}
 use Rattle.sc_app.specs.declared.command.Command.TheVariants.{Surface, Check, Scl}
@@ -11,7 +11,7 @@ use Rattle.sc_app.specs.declared.status.What.TheVariants.{Bytes}
 use Rattle.sc_app.specs.Forms.{IsForm, HasNoForm}
 use Rattle.sc_app.specs.Kinds.{StatusKind, WithText, WithoutText, PastLimit, Unasked, NotRead, NotWritten, NoMemory, kind_of}
 use Rattle.sc_app.specs.Notes.{note_of}
-use Rattle.sc_app.specs.Reading.{reads, given, MayRead, ReadsAll, IsUntouched, most_turns}
+use Rattle.sc_app.specs.Reading.{reads, given, MayRead, IsUntouched}
 use Rattle.sc_app.specs.Surface.{SurfaceResponds, SurfaceAccepts, IsSurfaceStatus}
 use Rattle.sc_app.specs.Check.{CheckResponds, CheckAccepts, IsCheckStatus}
 use Rattle.sc_app.specs.Scl.{SclResponds, SclAccepts, IsSclStatus}
@@ -114,7 +114,7 @@ pub record IsUnasked (words : List (List ℕ)) (left left' : Option (List ℕ)) 
 
 -- the words ask for a command, which ends so after it read so
 pub record IsAsked (words : List (List ℕ)) (left left' : Option (List ℕ)) (faults faults' : ℕ) (ReadRose WriteRose : Type 0) (old new : Option (List ℕ)) (status : Status)
-  : Type 0 where
+    : Type 0 where
   pub command : Command
   pub words_are : IsForm command words
   pub ends : EndsBy (kind_of status) command (given (reads command) left) ReadRose WriteRose old new status
@@ -132,7 +132,7 @@ TookUpTo old new text = TookPart old new text ⊎ Took old new text
 
 -- a call ends so, with the line of its status on `notes`: `noted` and `noted'` are what that took, `NoteRose` that its count rose
 pub record IsCall (words : List (List ℕ)) (left left' : Option (List ℕ)) (faults faults' : ℕ) (ReadRose WriteRose NoteRose : Type 0) (old new noted noted' : Option (List ℕ))
-  (status : Status) : Type 0 where
+    (status : Status) : Type 0 where
   pub answers : MayAnswer words left left' faults faults' ReadRose WriteRose old new status
   pub notes : TookUpTo noted noted' (note_of status)
   pub whole_note : NoteRose ⊎ Took noted noted' (note_of status)

@@ -11,7 +11,6 @@ use Rattle.sc_prices.specs.declared.verdict.Condition.TheVariants.{Flaw}
 use Rattle.sc_app.specs.Notes.{line}
 use Rattle.sc_app.specs.Rejections.{rejection}
 use Rattle.sc_app.specs.Answer.{status_of, text_of}
-use Rattle.sc_app.specs.declared.answer.Answer.{Answer}
 use Rattle.sc_app.specs.declared.said.Heading.{Heading}
 use Rattle.sc_app.specs.declared.said.Heading.TheVariants.{CertificateText, SurfaceText}
 use Rattle.sc_app.specs.declared.said.Said.{Said}

@@ -3,7 +3,6 @@
 ghost use Rattle.std.specs.Prelude.{IfSome};
 ghost use Rattle.sc_app.specs.Forms.{HasNoForm, bytes_of};
 
-
 use std::alloc::Global;
 use std::rt::Env;
 use std::{env, io};

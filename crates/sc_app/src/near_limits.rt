@@ -65,7 +65,9 @@ fn certificate_of_annuli(alloc: Global, copies: u16, weight: u16) -> Result<Vec<
     append_opposite_words(&mut text, weight)?;
     text.extend_from_slice(b"value 0/1\n")?;
     append_annuli(&mut text, copies, weight)?;
-    text.extend_from_slice(b"scale 1\nbase -3\nbase 4\npair 0 1 -3\nfrom 0 0 1\nfrom 1 0 0\npivots 1\npivot 2 0 1\nend\n")?;
+    text.extend_from_slice(
+        b"scale 1\nbase -3\nbase 4\npair 0 1 -3\nfrom 0 0 1\nfrom 1 0 0\npivots 1\npivot 2 0 1\nend\n",
+    )?;
     Ok(text)
 }
 
@@ -74,7 +76,10 @@ fn bears_a_million_sides(rt: HostRuntime) -> Result<(), Fail> {
     let small = surface_of_annuli(rt.alloc(), 2, 1000)?;
     let (status, out) = answer(rt.alloc(), "surface", small)?;
     assert_eq!(rt; status, Status::Done);
-    assert_eq!(rt; out.as_slice(), b"vertices 2000\nedges 2000\neuler 0\nfraction 0/1\n".as_slice());
+    assert_eq!(rt;
+        out.as_slice(),
+        b"vertices 2000\nedges 2000\neuler 0\nfraction 0/1\n".as_slice()
+    );
 
     let great = certificate_of_annuli(rt.alloc(), 500, 1000)?;
     let (status, out) = answer(rt.alloc(), "check", great)?;
