@@ -1,6 +1,6 @@
 -- Ratios in lowest terms by the greatest common divisor of their parts.
-use Rattle.std.specs.Prelude.{◌≡◌, ℕ, ◌<◌, ℤ, pos, negsuc, ◌*ℤ◌, ◌<ℤ◌, unsigned_abs, zero, suc}
-use Rattle.std.specs.Int.{◌∣◌, IsGcd}
+use Rattle.std.specs.Prelude.{◌≡◌, ℕ, ◌<◌, ℤ, pos, negsuc, ◌*ℤ◌, ◌<ℤ◌, unsigned_abs}
+use Rattle.std.specs.Int.{IsGcd}
 use Rattle.std.proofs.Common.{arith, subst}
 use Rattle.sc_algebra.proofs.Ints.{one-mul}
 use Rattle.sc_basis.specs.Products.{IsReduced}

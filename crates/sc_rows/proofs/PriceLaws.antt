@@ -1,12 +1,11 @@
 -- The new prices of a pivot, and the prices of the units.
-use Rattle.std.specs.Prelude.{◌≡◌, ◌⊎◌, ℕ, ◌<◌, List, length, None, Some, set, ℤ, pos, negsuc, ◌+ℤ◌, ◌*ℤ◌, ◌<ℤ◌}
-use Rattle.std.proofs.Common.{sym, ap, ◌∙◌, subst, inl, inr, refl}
+use Rattle.std.specs.Prelude.{◌≡◌, ◌⊎◌, ℕ, ◌<◌, List, length, None, Some, ℤ, pos, negsuc, ◌*ℤ◌, ◌<ℤ◌}
+use Rattle.std.proofs.Common.{sym, ap, ◌∙◌, subst, inl, inr}
 use Rattle.std.proofs.lemmas.List.{length-replicate, length-set}
 use Rattle.sc_weight.specs.declared.level.Level.{Level}
 use Rattle.sc_weight.specs.declared.level.Level.TheVariants.{Bulk, Fine}
 use Rattle.sc_basis.specs.Products.{at, dot, IsReduced}
-use Rattle.sc_basis.specs.Bases.{Column, Basis, entry_of, item, unit_basis, columns, bulk_cost, fine_cost, bulk_costs, fine_costs}
-use Rattle.sc_basis.specs.Standing.{Gives}
+use Rattle.sc_basis.specs.Bases.{Column, Basis, entry_of, unit_basis, bulk_cost, fine_cost, bulk_costs, fine_costs}
 use Rattle.sc_basis.specs.Pivots.{PricesPivoted, after_pivot}
 use Rattle.sc_basis.proofs.Numbers.{pos_of_mul}
 use Rattle.sc_basis.proofs.Units.{item-units, dot-columns-units}

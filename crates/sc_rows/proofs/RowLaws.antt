@@ -1,18 +1,18 @@
 -- The new rows of a pivot, and the rows of the units.
-use Rattle.std.specs.Prelude.{◌≡◌, ◌≢◌, ◌⊎◌, ℕ, ◌<◌, List, length, get_or, Option, None, ℤ, pos, ◌+ℤ◌, ◌-ℤ◌, ◌*ℤ◌, ◌<ℤ◌}
+use Rattle.std.specs.Prelude.{◌≡◌, ◌≢◌, ℕ, ◌<◌, List, length, get_or, Option, None, ℤ, pos, ◌-ℤ◌, ◌*ℤ◌, ◌<ℤ◌}
 use Rattle.std.proofs.Common.{arith, sym, ap, ◌∙◌, subst, inl, inr, refl}
 use Rattle.std.proofs.lemmas.Int.{ints}
 use Rattle.std.proofs.lemmas.Bool.{cases_eq}
 use Rattle.std.proofs.Math.Nat.{eq-one_of_dvd-one}
 use Rattle.sc_algebra.proofs.Ints.{zero-mul}
-use Rattle.sc_basis.specs.Products.{at, unit, IsCoprime, IsReduced}
+use Rattle.sc_basis.specs.Products.{at, IsCoprime, IsReduced}
 use Rattle.sc_basis.specs.Pivots.{RowsPivoted}
 use Rattle.sc_basis.proofs.Numbers.{mul_pos, pos_of_mul}
 use Rattle.sc_basis.proofs.RuleLaws.{row_by_rule}
 use Rattle.sc_rows.specs.Lines.{Line, AreRows, IsUnitLine, no_line, row_of, den_of}
 use Rattle.sc_rows.specs.Places.{IsWideBy}
 use Rattle.sc_rows.specs.Updates.{IsUpdated, IsWideUpdate}
-use Rattle.sc_rows.specs.Fresh.{IsRowPivoted, IsFresh, AreFresh, chosen}
+use Rattle.sc_rows.specs.Fresh.{IsRowPivoted, AreFresh, chosen}
 use Rattle.sc_rows.specs.Evidence.{IsWidePivot}
 use Rattle.sc_rows.specs.declared.fault.RowFault.{RowFault}
 use Rattle.sc_rows.specs.declared.fault.RowFault.TheVariants.{Wide, Memory}

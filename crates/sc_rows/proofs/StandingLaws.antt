@@ -1,6 +1,6 @@
 -- Rows and prices that stand for a basis.
-use Rattle.std.specs.Prelude.{◌≡◌, ◌≢◌, ℕ, ◌<◌, List, length, get_or, None, Some, set, ℤ, pos, ◌*ℤ◌, ◌<ℤ◌}
-use Rattle.std.proofs.Common.{arith, sym, ap, ◌∙◌, subst, refl}
+use Rattle.std.specs.Prelude.{◌≡◌, ℕ, ◌<◌, List, length, get_or, None, Some, ℤ, pos, ◌*ℤ◌, ◌<ℤ◌}
+use Rattle.std.proofs.Common.{arith, sym, ap, ◌∙◌}
 use Rattle.std.proofs.lemmas.Int.{ints}
 use Rattle.std.proofs.lemmas.List.{length-replicate}
 use Rattle.std.proofs.Math.ListN.{length-set}

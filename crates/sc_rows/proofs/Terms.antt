@@ -1,7 +1,7 @@
 -- Products term by term, and the refusal of a term.
-use Rattle.std.specs.Prelude.{◌≡◌, ◌⊎◌, ℕ, zero, suc, ◌+◌, ◌<◌, List, length, ℤ, ◌+ℤ◌, ◌*ℤ◌}
-use Rattle.std.proofs.Common.{arith, sym, ap, ap₂, ◌∙◌, subst₂, add-one}
-use Rattle.sc_basis.specs.Products.{at, dot}
+use Rattle.std.specs.Prelude.{◌≡◌, ℕ, ◌+◌, ◌<◌, length, ℤ, ◌+ℤ◌, ◌*ℤ◌}
+use Rattle.std.proofs.Common.{sym, ap, ap₂, ◌∙◌, subst₂, add-one}
+use Rattle.sc_basis.specs.Products.{dot}
 use Rattle.sc_basis.specs.Bases.{Column, entry_of, IsAscending}
 use Rattle.sc_basis.specs.Entries.{index_at, number_at, reached}
 use Rattle.sc_basis.proofs.EntryLaws.{index_inside, entry_here, product_through}

@@ -1,6 +1,6 @@
 -- New lists by the rule, and their refusals.
-use Rattle.std.specs.Prelude.{◌≡◌, ◌⊎◌, ℕ, ◌+◌, ◌<◌, List, ℤ, pos, ◌*ℤ◌, ◌<ℤ◌}
-use Rattle.std.proofs.Common.{sym, ap, ◌∙◌, subst₂, inl, inr}
+use Rattle.std.specs.Prelude.{ℕ, ℤ, pos, ◌*ℤ◌, ◌<ℤ◌}
+use Rattle.std.proofs.Common.{inl}
 use Rattle.sc_basis.specs.Rules.{IsLowest}
 use Rattle.sc_basis.proofs.Numbers.{mul_pos, pos_of_mul}
 use Rattle.sc_rows.specs.Places.{IsWideBy}

@@ -1,5 +1,5 @@
 -- The refusals of rows and prices, each with its place, indices and operands.
-use Rattle.std.specs.Prelude.{◌≡◌, ◌≢◌, ◌⊎◌, ℕ, ◌<◌, List, length, None, ℤ, pos, ◌*ℤ◌}
+use Rattle.std.specs.Prelude.{◌≢◌, ◌⊎◌, ℕ, ◌<◌, List, length, None, ℤ, pos, ◌*ℤ◌}
 use Rattle.sc_weight.specs.declared.level.Level.{Level}
 use Rattle.sc_weight.specs.declared.level.Level.TheVariants.{Bulk, Fine}
 use Rattle.sc_whole.specs.declared.checked.Op.TheVariants.{Sub}

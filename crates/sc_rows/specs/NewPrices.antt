@@ -1,5 +1,5 @@
 -- The new prices of a level, by the leaving row over its product.
-use Rattle.std.specs.Prelude.{◌⊎◌, ℕ, length, ℤ}
+use Rattle.std.specs.Prelude.{◌⊎◌, ℕ, length}
 use Rattle.sc_weight.specs.declared.level.Level.{Level}
 use Rattle.sc_basis.specs.Products.{at}
 use Rattle.sc_basis.specs.Bases.{Column}

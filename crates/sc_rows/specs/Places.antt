@@ -1,6 +1,5 @@
 -- Where an operation stands, and a result there that is outside 128 bits.
-use Rattle.std.specs.Prelude.{◌≡◌, ◌⊎◌, ℕ, ◌<◌, Option, Some, None, ℤ, ◌*ℤ◌}
-use Rattle.sc_weight.specs.declared.level.Level.{Level}
+use Rattle.std.specs.Prelude.{◌≡◌, ◌⊎◌, ℕ, ◌<◌, Option, None, ℤ, ◌*ℤ◌}
 use Rattle.sc_whole.specs.Operation.{step, StepFits}
 use Rattle.sc_whole.specs.declared.checked.Op.{Op}
 use Rattle.sc_whole.specs.declared.checked.Op.TheVariants.{Add, Mul}

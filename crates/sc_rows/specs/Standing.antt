@@ -2,10 +2,10 @@
 use Rattle.std.specs.Prelude.{◌≡◌, ℕ, ◌<◌, List, length, ℤ, pos, ◌<ℤ◌}
 use Rattle.sc_weight.specs.declared.level.Level.{Level}
 use Rattle.sc_weight.specs.declared.level.Level.TheVariants.{Bulk, Fine}
-use Rattle.sc_basis.specs.Products.{at, unit, IsCoprime}
-use Rattle.sc_basis.specs.Bases.{Column, Basis, columns, bulk_costs, fine_costs}
+use Rattle.sc_basis.specs.Products.{at, dot, unit, IsCoprime}
+use Rattle.sc_basis.specs.Bases.{Column, Basis, entry_of, columns, bulk_costs, fine_costs}
 use Rattle.sc_basis.specs.Standing.{Gives, BasisNumbers}
-use Rattle.sc_basis.specs.Pivots.{gap}
+use Rattle.sc_basis.specs.Pivots.{PricesPivoted, gap}
 use Rattle.sc_rows.specs.Lines.{Line, row_of, den_of}
 use Rattle.sc_rows.specs.declared.prices.PriceRow.{PriceRow}
 use Rattle.sc_rows.specs.declared.prices.PriceRows.{PriceRows}
@@ -58,3 +58,7 @@ cost_at Fine = pos 1
 -- what the price of the column at a level lacks of its cost, times the scale
 abbrev pub gap_at : ℕ → PriceRow → Level → Column → ℤ
 gap_at r p level c = gap r (entries_of p) p.scale (cost_at level) c
+
+-- the prices new at a level in place of p, where the column c enters and the row v leaves
+abbrev pub AreNewPrices : ℕ → Level → PriceRow → PriceRow → (ℕ → ℤ) → Column → Type 0
+AreNewPrices r level p new v c = PricesPivoted r (entries_of p) p.scale (entries_of new) new.scale (gap_at r p level c) v (dot r v (entry_of c))

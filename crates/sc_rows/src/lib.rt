@@ -1,6 +1,6 @@
-//! The inverse of a basis by rows, and the prices of the basis at two levels. A pivot puts a column in place of an item: it makes the
-//! new rows and prices first, so that after a refusal all is as before. A refusal for want of width names the operation whose
-//! exact result is outside 128 bits.
+//! The inverse of a basis by rows, and the prices of the basis at two levels. A pivot puts a column in place of an
+//! item. It makes the new rows and prices first, so that after a refusal all is as before. A refusal for want of width
+//! names the operation whose exact result is outside 128 bits.
 #![tactic(auto)]
 
 mod fault;

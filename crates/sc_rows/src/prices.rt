@@ -1,10 +1,10 @@
 //! The prices of a basis at two levels.
 ghost use Rattle.std.specs.Prelude.{◌≡◌, ℕ, ◌<◌, ◌^◌, length, pos, negsuc, ◌*ℤ◌, ◌<ℤ◌, IfOk, IfErr, OnOk, OnErr};
-ghost use Rattle.sc_basis.specs.Products.{at, dot, IsReduced};
+ghost use Rattle.sc_basis.specs.Products.{at, dot};
 ghost use Rattle.sc_basis.specs.Bases.{Basis, entry_of, IsAscending, unit_basis};
-ghost use Rattle.sc_basis.specs.Pivots.{PricesPivoted, after_pivot};
+ghost use Rattle.sc_basis.specs.Pivots.{after_pivot};
 ghost use Rattle.sc_rows.specs.Lines.{row_of};
-ghost use Rattle.sc_rows.specs.Standing.{ArePrices, RowsStand, PricesStand, cost_at, entries_of, gap_at};
+ghost use Rattle.sc_rows.specs.Standing.{ArePrices, AreNewPrices, RowsStand, PricesStand, cost_at, entries_of, gap_at};
 ghost use Rattle.sc_rows.specs.Places.{IsWideBy};
 ghost use Rattle.sc_rows.specs.Evidence.{IsWideGap, IsWidePricePivot};
 ghost use Rattle.sc_rows.specs.NewPrices.{IsNewPrices, IsWideAtLevel};
@@ -139,10 +139,8 @@ impl PriceRows {
         requires ascending { IsAscending (length rows.now) 0 column.now.items }
         requires positive { pos 0 <ℤ dot (length rows.now) (row_of rows.now row) (entry_of column.now.items) }
         ensures prices { ArePrices (length rows.now) self.new }
-        ensures bulk { OnOk result (PricesPivoted (length rows.now) (entries_of self.old.bulk) self.old.bulk.scale (entries_of self.new.bulk) self.new.bulk.scale
-            (gap_at (length rows.now) self.old.bulk Level.Bulk column.now.items) (row_of rows.now row) (dot (length rows.now) (row_of rows.now row) (entry_of column.now.items))) }
-        ensures fine { OnOk result (PricesPivoted (length rows.now) (entries_of self.old.fine) self.old.fine.scale (entries_of self.new.fine) self.new.fine.scale
-            (gap_at (length rows.now) self.old.fine Level.Fine column.now.items) (row_of rows.now row) (dot (length rows.now) (row_of rows.now row) (entry_of column.now.items))) }
+        ensures bulk { OnOk result (AreNewPrices (length rows.now) Level.Bulk self.old.bulk self.new.bulk (row_of rows.now row) column.now.items) }
+        ensures fine { OnOk result (AreNewPrices (length rows.now) Level.Fine self.old.fine self.new.fine (row_of rows.now row) column.now.items) }
         ensures stands { OnOk result ((basis : Basis) → RowsStand (length rows.now) basis rows.now → PricesStand (length rows.now) basis self.old →
             PricesStand (length rows.now) (after_pivot basis (row, column.now.items)) self.new) }
         ensures unchanged { OnErr result (self.new ≡ self.old) }

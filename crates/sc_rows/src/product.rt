@@ -1,5 +1,5 @@
 //! Products of lists, summed in the order of the index.
-ghost use Rattle.std.specs.Prelude.{◌≡◌, ◌⊎◌, ◌<◌, ◌^◌, length, ◌+ℤ◌, ◌*ℤ◌, IfOk, IfErr};
+ghost use Rattle.std.specs.Prelude.{◌≡◌, ◌<◌, ◌^◌, length, ◌+ℤ◌, ◌*ℤ◌, IfOk, IfErr};
 ghost use Rattle.sc_basis.specs.Products.{at, dot};
 ghost use Rattle.sc_basis.specs.Bases.{entry_of, IsAscending};
 ghost use Rattle.sc_rows.specs.Places.{mul_spot, add_spot, IsWideTerm, IsWideProduct};

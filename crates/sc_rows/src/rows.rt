@@ -1,5 +1,5 @@
 //! The inverse of a basis by rows.
-ghost use Rattle.std.specs.Prelude.{◌≡◌, ◌≢◌, ℕ, ◌<◌, ◌^◌, List, length, get_or, pos, ◌*ℤ◌, ◌<ℤ◌, Option, None, IfOk, IfErr, OnOk, OnErr};
+ghost use Rattle.std.specs.Prelude.{◌≡◌, ◌≢◌, ℕ, ◌<◌, ◌^◌, List, length, get_or, pos, ◌<ℤ◌, Option, None, IfOk, IfErr, OnOk, OnErr};
 ghost use Rattle.sc_basis.specs.Products.{at, dot, unit, IsReduced};
 ghost use Rattle.sc_basis.specs.Bases.{Basis, Column, entry_of, IsAscending, unit_basis};
 ghost use Rattle.sc_basis.specs.Pivots.{RowsPivoted, after_pivot};

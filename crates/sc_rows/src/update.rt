@@ -1,7 +1,6 @@
 //! One new row or price list by the rule with a ratio in lowest terms.
 ghost use Rattle.std.specs.Prelude.{◌≡◌, ◌<◌, ◌^◌, length, pos, ◌*ℤ◌, ◌<ℤ◌, IfOk, IfErr};
 ghost use Rattle.sc_basis.specs.Products.{at};
-ghost use Rattle.sc_basis.specs.Rules.{IsLowest};
 ghost use Rattle.sc_rows.specs.Places.{IsWide, IsWideBy};
 ghost use Rattle.sc_rows.specs.Updates.{join_op, joined, left_spot, right_spot, join_spot, scale_spot, IsUpdated, IsWideEntry, IsWideUpdate, AreJoined, IsWideAmong};
 

@@ -1,7 +1,6 @@
-use Rattle.std.proofs.Common.{◌≡◌, ◌+◌, ℕ, subst, arith, add-one, unsigned_abs, FitsSigned, to_z, of_z, to_z-of_z, rules, length}
-use Rattle.std.specs.Int.{◌∣◌, w128, IsGcd}
+use Rattle.std.proofs.Common.{arith, add-one, FitsSigned, to_z-of_z, rules, length}
+use Rattle.std.specs.Int.{w128}
 use Rattle.sc_basis.specs.Products.{at}
-use Rattle.sc_basis.specs.Divisors.{IsCommonDivisor}
 use Rattle.sc_basis.proofs.CommonDivisors.{divisor_first, divisor_next, divisor_one}
 use Rattle.sc_rows.proofs.lists.common_divisor.Goals as goal
 

@@ -1,4 +1,4 @@
-use Rattle.std.proofs.Common.{◌≡◌, ℕ, subst, sym, ap, unsigned_abs, FitsSigned, to_z, of_z, to_z-of_z, rules, pos, get_or}
+use Rattle.std.proofs.Common.{subst, sym, unsigned_abs, FitsSigned, to_z-of_z, rules}
 use Rattle.std.specs.Int.{◌∣◌, w128}
 use Rattle.sc_basis.specs.Products.{at}
 use Rattle.sc_rows.proofs.lists.divide.Goals as goal

@@ -1,4 +1,4 @@
-use Rattle.std.proofs.Common.{◌≡◌, ◌∙◌, ℤ, pos, ◌*ℤ◌, FitsSigned, to_z, of_z, to_z-of_z, rules}
+use Rattle.std.proofs.Common.{◌∙◌, FitsSigned, to_z-of_z, rules}
 use Rattle.std.specs.Int.{w128}
 use Rattle.sc_rows.proofs.Divisors.{divisor_of_positive, lowest_by_divisor}
 use Rattle.sc_rows.proofs.lists.lowest.Goals as goal

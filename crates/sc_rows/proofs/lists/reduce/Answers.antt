@@ -1,7 +1,6 @@
-use Rattle.std.proofs.Common.{◌≡◌, ◌<◌, ◌*ℤ◌, ◌∙◌, pos, ℕ, ℤ, sym, ap, arith, length, FitsSigned, to_z, of_z, to_z-of_z, rules}
-use Rattle.std.specs.Int.{◌∣◌, w128}
-use Rattle.sc_basis.specs.Products.{at, IsReduced}
-use Rattle.sc_basis.specs.Divisors.{IsCommonDivisor}
+use Rattle.std.proofs.Common.{◌≡◌, ◌∙◌, ap, length, FitsSigned, to_z-of_z, rules}
+use Rattle.std.specs.Int.{w128}
+use Rattle.sc_basis.specs.Products.{at}
 use Rattle.sc_basis.proofs.CommonDivisors.{divisor_positive, divided_by}
 use Rattle.sc_rows.proofs.Divisors.{reduced_already}
 use Rattle.sc_rows.proofs.Written.{written}

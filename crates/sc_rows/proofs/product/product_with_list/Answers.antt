@@ -1,8 +1,7 @@
-use Rattle.std.proofs.Common.{◌≡◌, ℕ, subst, FitsSigned, to_z, of_z, to_z-of_z, rules}
+use Rattle.std.proofs.Common.{FitsSigned, to_z-of_z, rules}
 use Rattle.std.specs.Int.{w128}
 use Rattle.std.proofs.lemmas.Result.{err_from_is_err_and}
 use Rattle.sc_basis.specs.Products.{at}
-use Rattle.sc_rows.specs.Places.{IsWideTerm}
 use Rattle.sc_rows.proofs.product.product_with_list.Goals as goal
 
 pub returns-in_err-sum-clause-evidence : goal.returns-in_err-sum-clause-evidence

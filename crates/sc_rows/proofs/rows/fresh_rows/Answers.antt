@@ -1,4 +1,4 @@
-use Rattle.std.proofs.Common.{◌≡◌, ℕ, Option, None}
+use Rattle.std.proofs.Common.{ℕ, Option, None}
 use Rattle.sc_basis.specs.Products.{at}
 use Rattle.sc_rows.specs.Lines.{Line}
 use Rattle.sc_rows.specs.Fresh.{IsFresh}

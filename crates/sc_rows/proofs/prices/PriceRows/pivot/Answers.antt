@@ -1,12 +1,8 @@
-use Rattle.std.proofs.Common.{◌≡◌, ◌∙◌, ℕ, List, length, ℤ, FitsSigned, to_z, of_z, to_z-of_z, rules}
+use Rattle.std.proofs.Common.{◌≡◌, ◌∙◌, length, FitsSigned, to_z-of_z, rules}
 use Rattle.std.specs.Int.{w128}
 use Rattle.std.proofs.lemmas.Result.{err_from_is_err_and}
 use Rattle.sc_weight.specs.declared.level.Level.TheVariants.{Bulk, Fine}
-use Rattle.sc_basis.specs.Products.{dot}
-use Rattle.sc_basis.specs.Bases.{Column, entry_of}
 use Rattle.sc_rows.specs.Lines.{row_of}
-use Rattle.sc_rows.specs.Standing.{ArePrices}
-use Rattle.sc_rows.specs.declared.prices.PriceRows.{PriceRows}
 use Rattle.sc_rows.proofs.PriceLaws.{bulk_wide, fine_wide, prices_made, left_positive, new_scale_positive, prices_stand_after}
 use Rattle.sc_rows.proofs.prices.PriceRows.pivot.Goals as goal
 

@@ -1,4 +1,4 @@
-use Rattle.std.proofs.Common.{◌≡◌, pos, ◌<ℤ◌, arith}
+use Rattle.std.proofs.Common.{◌≡◌, pos, arith}
 use Rattle.std.proofs.lemmas.Int.{ints}
 use Rattle.sc_rows.specs.Standing.{ArePrices}
 use Rattle.sc_rows.specs.declared.prices.PriceRows.{PriceRows}

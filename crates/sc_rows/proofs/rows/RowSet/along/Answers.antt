@@ -1,6 +1,5 @@
-use Rattle.std.proofs.Common.{◌≡◌, ◌<◌, ◌∙◌, ap, arith, List, length, ℕ}
+use Rattle.std.proofs.Common.{◌≡◌, ◌<◌, ◌∙◌, ap, arith, List, length}
 use Rattle.std.proofs.lemmas.Result.{err_from_is_err_and}
-use Rattle.sc_basis.specs.Bases.{Column}
 use Rattle.sc_rows.specs.Lines.{Line}
 use Rattle.sc_rows.proofs.rows.RowSet.along.Goals as goal
 
