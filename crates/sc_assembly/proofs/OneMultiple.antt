@@ -74,5 +74,5 @@ values_from_one c parts n counts some are balanced = record {
 }
 
 -- ---- a count over n is a value of which n makes the count
-pub times_of_quotient : (n k : ℕ) (v : Frac) → 0 < n → IsQuotient (pos k) (pos n) v → IsTimes n v (pos k)
-times_of_quotient n k v some is = mul_comm (pos n) (numerator v) ∙ is
+pub times_of_quotient : (n k : ℕ) (v : Frac) → IsQuotient (pos k) (pos n) v → IsTimes n v (pos k)
+times_of_quotient n k v is = mul_comm (pos n) (numerator v) ∙ is

@@ -18,7 +18,7 @@ use sc_theory::Side;
 use std::alloc::{AllocError, Global};
 
 #[cfg(test)]
-mod tests;
+pub(crate) mod tests;
 
 /// Lays the copies of the polygons one behind another, part by part.
 fn lay_parts(alloc: Global, parts: &[Part], counts: &[u32]) -> Result<Laid, AllocError>

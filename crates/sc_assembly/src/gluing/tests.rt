@@ -14,7 +14,11 @@ use sc_fraction::Frac;
 use std::process::Abort;
 
 /// The words of texts, each once.
-fn words_of(rt: &impl Abort, alloc: Global, texts: &[&[u8]]) -> Result<Vec<(u32, Word)>, AllocError>
+pub(crate) fn words_of(
+    rt: &impl Abort,
+    alloc: Global,
+    texts: &[&[u8]],
+) -> Result<Vec<(u32, Word)>, AllocError>
     requires { length texts.now < 100 }
     ensures words { IfOk result (λ words. words.items ≡ map (λ text. (1, filter_map letter_of text.now)) texts.now) }
     ensures generators { IfOk result (λ words. AreGenerators words.items) }
