@@ -1,11 +1,11 @@
 -- Where some number of copies makes all values whole and the counts balance, the values do.
-use Rattle.std.proofs.Common.{◌≡◌, ℕ, zero, suc, ◌<◌, List, [], ◌∷◌, ℤ, pos, negsuc, ◌+ℤ◌, ◌*ℤ◌, ◌≤ℤ◌, ◌<ℤ◌, arith, refl, sym, ap, ap₂, ◌∙◌}
+use Rattle.std.proofs.Common.{◌≡◌, ℕ, ◌<◌, List, [], ◌∷◌, ℤ, pos, negsuc, ◌+ℤ◌, ◌*ℤ◌, ◌≤ℤ◌, ◌<ℤ◌, arith, sym, ap, ap₂, ◌∙◌}
 use Rattle.std.specs.List.{AllByRecursion}
 use Rattle.std.proofs.lemmas.Int.{ints}
 use Rattle.sc_algebra.proofs.Ints.{mul_comm, mul_add, mul_assoc, mul_left_comm, mul-zero, cancel}
 use Rattle.sc_theory.specs.Chains.{Chain}
 use Rattle.sc_theory.specs.Walks.{IsPolygon}
-use Rattle.sc_theory.specs.Columns.{rows, column, right_side}
+use Rattle.sc_theory.specs.Columns.{column, right_side}
 use Rattle.sc_fraction.specs.declared.frac.Frac.{Frac}
 use Rattle.sc_fraction.specs.Frac.{numerator, denominator, IsQuotient}
 use Rattle.sc_gluing.specs.Gluing.{parts_column, AreBalanced}

@@ -1,10 +1,10 @@
 -- For each balanced chain some polygons have columns that come to the right side: those that the turns round the vertices of its
 -- seed surface split into.
-use Rattle.std.proofs.Common.{◌≡◌, ℕ, zero, suc, ◌-◌, ◌+◌, ◌*◌, ◌<◌, ◌≤◌, Bool, true, false, ◌&&◌, eqb, ltb, if◌then◌else◌, List, [], ◌∷◌, ◌++◌, map, length, ℤ, pos, ◌+ℤ◌, ◌-ℤ◌, ◌*ℤ◌, neg_ℤ, inl, inr, arith, refl, sym, ap, ap₂, subst, ◌∙◌}
+use Rattle.std.proofs.Common.{◌≡◌, ℕ, ◌<◌, ◌≤◌, Bool, true, false, ◌&&◌, eqb, if◌then◌else◌, List, [], ◌∷◌, map, length, ℤ, pos, ◌+ℤ◌, ◌-ℤ◌, neg_ℤ, inl, inr, arith, refl, sym, ap, ap₂, subst, ◌∙◌}
 use Rattle.std.specs.List.{AllByRecursion}
 use Rattle.std.proofs.lemmas.Int.{ints}
 use Rattle.std.proofs.lemmas.Bool.{cases_eq, cases_lt, eq-eqb, ne_eqb, lt-ltb, le-ltb}
-use Rattle.sc_algebra.specs.Sums.{sum_below, count_below}
+use Rattle.sc_algebra.specs.Sums.{sum_below}
 use Rattle.sc_algebra.specs.Permutations.{IsPermutation}
 use Rattle.sc_algebra.proofs.Ints.{one-mul}
 use Rattle.sc_algebra.proofs.Sums.{sum-congr, count-sum}
@@ -19,7 +19,7 @@ use Rattle.sc_theory.proofs.WalkTotals.{ends_at}
 use Rattle.sc_theory.proofs.ColumnLaws.{at_step, pair_part, step_column}
 use Rattle.sc_chain.proofs.PairLaws.{IsInversePair, inverse_at}
 use Rattle.sc_gluing.specs.Cycles.{Parts, copies_of, at, after}
-use Rattle.sc_gluing.specs.Gluing.{parts_column, AreBalanced}
+use Rattle.sc_gluing.specs.Gluing.{AreBalanced}
 use Rattle.sc_gluing.specs.Seeds.{word_cycles}
 use Rattle.sc_gluing.proofs.CycleLaws.{size, after_inside, after_permutes}
 use Rattle.sc_gluing.proofs.StepCounts.{parts_column_is}

@@ -1,10 +1,10 @@
 -- The numbers that make fractions whole are the common multiples of their denominators.
-use Rattle.std.proofs.Common.{◌≡◌, ℕ, zero, suc, ◌+◌, ◌*◌, ◌/◌, ◌^◌, ◌<◌, ◌≤◌, List, [], ◌∷◌, ◌++◌, ℤ, pos, negsuc, ◌*ℤ◌, ◌<ℤ◌, ◌≤ℤ◌, unsigned_abs, arith, refl, sym, ap, subst, ◌∙◌}
+use Rattle.std.proofs.Common.{◌≡◌, ℕ, ◌*◌, ◌/◌, ◌<◌, ◌≤◌, List, [], ◌∷◌, ◌++◌, ℤ, pos, negsuc, ◌*ℤ◌, ◌<ℤ◌, unsigned_abs, arith, refl, sym, ap, subst, ◌∙◌}
 use Rattle.std.specs.Int.{◌∣◌}
 use Rattle.std.specs.List.{AllByRecursion}
 use Rattle.std.proofs.lemmas.Int.{ints, unsigned_abs-mul}
 use Rattle.std.proofs.lemmas.Nat.Gcd.{dvd_refl, dvd-zero, dvd_trans, le_of_dvd, IsGcd-swap}
-use Rattle.std.proofs.Math.Nat.{dvd-mul_left, dvd-mul_right, dvd-mul_left_of_dvd, mul-div_cancel', pos_of_dvd_of_pos, eq-one_of_dvd-one, mul-le-mul_right}
+use Rattle.std.proofs.Math.Nat.{dvd-mul_left, dvd-mul_right, mul-div_cancel', pos_of_dvd_of_pos, eq-one_of_dvd-one, mul-le-mul_right}
 use Rattle.sc_algebra.proofs.Ints.{mul_comm, mul_assoc, pos-mul, mul-zero, cancel}
 use Rattle.sc_whole.specs.Divisor.{IsLcm}
 use Rattle.sc_whole.proofs.DivisorLaws.{gcd_exists, IsLcm-from_gcd, dvd_of_dvd-mul}

@@ -1,4 +1,4 @@
-use Rattle.std.proofs.Common.{ℕ, take}
+use Rattle.std.proofs.Common.{take}
 use Rattle.sc_assembly.specs.Multiples.{AreCounts}
 use Rattle.sc_assembly.proofs.counting.counts_of.Given as goal
 

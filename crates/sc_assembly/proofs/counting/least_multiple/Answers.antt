@@ -1,8 +1,6 @@
-use Rattle.std.proofs.Common.{◌≡◌, ℕ, ◌*◌, ◌<◌, ◌≤◌, FitsSigned, to_z-of_z, unsigned_abs, arith, rules, refl, sym, ap, subst, ◌∙◌}
+use Rattle.std.proofs.Common.{◌≡◌, ℕ, ◌*◌, ◌<◌, ◌≤◌, FitsSigned, to_z-of_z, unsigned_abs, rules, refl, sym, ap, subst, ◌∙◌}
 use Rattle.std.specs.Int.{w128}
-use Rattle.sc_theory.specs.Chains.{weighted_length}
 use Rattle.sc_whole.specs.Divisor.{IsLcm}
-use Rattle.sc_fraction.specs.Frac.{denominator}
 use Rattle.sc_fatgraph.specs.declared.limits.TheConstants.{MAX_SIDES}
 use Rattle.sc_assembly.proofs.Wholes.{size, first_common}
 use Rattle.sc_assembly.proofs.PartLoops.{common_more, many_sides}

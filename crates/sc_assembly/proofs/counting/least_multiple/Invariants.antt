@@ -1,5 +1,4 @@
-use Rattle.std.proofs.Common.{ℕ, ◌*◌, ◌<◌, ◌≤◌, take}
-use Rattle.sc_fatgraph.specs.declared.limits.TheConstants.{MAX_SIDES}
+use Rattle.std.proofs.Common.{◌≤◌, take}
 use Rattle.sc_assembly.specs.Multiples.{IsLeastCommon}
 use Rattle.sc_assembly.proofs.counting.least_multiple.Given as goal
 

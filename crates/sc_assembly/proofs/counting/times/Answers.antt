@@ -1,4 +1,4 @@
-use Rattle.std.proofs.Common.{◌≡◌, ℕ, ◌*◌, ◌/◌, Fits, FitsSigned, to_z-of_z, pos, unsigned_abs, arith, rules, sym, ap, ap₂, subst, ◌∙◌}
+use Rattle.std.proofs.Common.{◌≡◌, ℕ, ◌*◌, ◌/◌, FitsSigned, to_z-of_z, pos, unsigned_abs, arith, rules, sym, ap, ap₂, subst, ◌∙◌}
 use Rattle.std.specs.Int.{w128}
 use Rattle.sc_fraction.specs.Frac.{numerator}
 use Rattle.sc_assembly.specs.Multiples.{IsTimes}

@@ -1,4 +1,4 @@
-use Rattle.std.proofs.Common.{◌≡◌, ◌*◌, ◌<◌, ◌≤◌, ◌^◌, ℕ, List, length, arith, sym, ap, subst₂}
+use Rattle.std.proofs.Common.{◌≡◌, ◌<◌, ◌^◌, ℕ, List, length, arith, sym, ap, subst₂}
 use Rattle.sc_theory.specs.Chains.{Chain}
 use Rattle.sc_gluing.specs.Cycles.{copies_of, labels_of}
 use Rattle.sc_gluing.specs.Gluing.{AreBalanced}

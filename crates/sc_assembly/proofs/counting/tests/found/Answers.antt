@@ -1,4 +1,4 @@
-use Rattle.std.proofs.Common.{◌≡◌, ℕ, List, map, length, rules, sym, ap, subst₂, ◌∙◌}
+use Rattle.std.proofs.Common.{◌≡◌, ℕ, List, rules, sym, ap, subst₂, ◌∙◌}
 use Rattle.std.specs.List.{zip}
 use Rattle.sc_theory.specs.Chains.{Chain}
 use Rattle.sc_gluing.specs.Cycles.{Parts}

@@ -1,4 +1,4 @@
-use Rattle.std.proofs.Common.{◌≡◌, ℕ, ℤ, pos, FitsSigned, to_z-of_z, rules, subst₂, ◌∙◌}
+use Rattle.std.proofs.Common.{ℤ, pos, FitsSigned, to_z-of_z, rules, subst₂, ◌∙◌}
 use Rattle.std.specs.Int.{w128}
 use Rattle.sc_fraction.specs.Frac.{IsQuotient}
 use Rattle.sc_assembly.proofs.OneMultiple.{times_of_quotient}

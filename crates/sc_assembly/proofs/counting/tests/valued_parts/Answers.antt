@@ -1,4 +1,4 @@
-use Rattle.std.proofs.Common.{◌≡◌, ◌+◌, ◌<◌, ℕ, List, [], ◌∷◌, ◌++◌, length, get_or, take, pos, sym, subst, subst₂, rules, arith}
+use Rattle.std.proofs.Common.{◌<◌, ℕ, List, length, get_or, take, sym, subst₂, arith}
 use Rattle.std.proofs.lemmas.Grind.{common_steps}
 use Rattle.std.proofs.lemmas.List.{take_more}
 use Rattle.sc_assembly.specs.declared.parts.Part.{Part}
