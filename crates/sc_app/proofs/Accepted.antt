@@ -2,7 +2,7 @@
 use Rattle.std.proofs.Common.{ℕ, inl, inr, List, subst, arith}
 use Rattle.sc_chain.specs.declared.lines.RawLine.{RawLine}
 use Rattle.sc_reduce.specs.Lines.{chain_of, HasManyWords, HasManyPositions}
-use Rattle.sc_text.proofs.FaultLaws.{faultless_first}
+use Rattle.sc_line.proofs.FaultLaws.{faultless_first}
 use Rattle.sc_certificate.specs.Certificates.{certificate_plan}
 use Rattle.sc_prices.specs.declared.verdict.Condition.TheVariants.{Flaw}
 use Rattle.sc_app.specs.declared.command.Command.{Command}

@@ -2,7 +2,7 @@
 use Rattle.std.proofs.Common.{◌≡◌, ℕ, List, ℤ, IsSome, is_some, None, Some, Option, inl, inr, ap, ap₂, ◌∙◌, subst, sym, arith}
 use Rattle.std.proofs.lemmas.Bool.{cases_lt, false≢true}
 use Rattle.sc_theory.specs.Chains.{Chain}
-use Rattle.sc_chain.specs.declared.fault.Kind.{Kind}
+use Rattle.sc_line.specs.declared.fault.Kind.{Kind}
 use Rattle.sc_chain.specs.declared.lines.RawLine.{RawLine}
 use Rattle.sc_chain.specs.ChainText.{IsChainText, IsFirstMalformed, line_case, line_at, line_kind}
 use Rattle.sc_chain.specs.Balance.{IsFirstUnbalanced}

@@ -3,12 +3,12 @@ use Rattle.std.proofs.Common.{◌≡◌, ℕ, inl, inr, List, true, false, refl,
 use Rattle.std.proofs.lemmas.Bool.{cond-true, cond-false, false≢true}
 use Rattle.sc_theory.specs.Chains.{Chain}
 use Rattle.sc_theory.specs.Fatgraphs.{Sides}
-use Rattle.sc_chain.specs.declared.fault.Kind.{Kind}
-use Rattle.sc_text.specs.Faults.{Plan, IsFaultless, IsFirstFault}
+use Rattle.sc_line.specs.declared.fault.Kind.{Kind}
+use Rattle.sc_line.specs.Faults.{Plan, IsFaultless, IsFirstFault}
 use Rattle.sc_text.specs.Surfaces.{surface_text, surface_table}
-use Rattle.sc_text.proofs.FaultLaws.{faultless_first}
-use Rattle.sc_text.proofs.Faultless.{faultless_text}
-use Rattle.sc_text.proofs.OneText.{one_text, SameSurface}
+use Rattle.sc_line.proofs.FaultLaws.{faultless_first}
+use Rattle.sc_text.proofs.SurfaceLaws.{faultless_text}
+use Rattle.sc_text.proofs.SurfaceLaws.{one_text, SameSurface}
 use Rattle.sc_certificate.specs.Certificates.{Certificate, certificate_text, certificate_plan}
 use Rattle.sc_certificate.proofs.TextLaws.{text_is_faultless, text_is_of_one}
 use Rattle.sc_app.specs.declared.said.Heading.TheVariants.{CertificateText, SurfaceText}

@@ -6,7 +6,7 @@ use Rattle.sc_theory.proofs.Vouching.{covers}
 use Rattle.sc_theory.proofs.Leastness as leastness
 use Rattle.sc_text.specs.Surfaces.{IsChainInRange}
 use Rattle.sc_certificate.specs.Certificates.{Certificate}
-use Rattle.sc_fatgraph.proofs.ReadChains.{accepted}
+use Rattle.sc_text.proofs.ReadChains.{accepted}
 use Rattle.sc_reduce.proofs.LineLaws.{chain_total-chain_of}
 use Rattle.sc_outside.specs.Told.{Took}
 use Rattle.sc_app.specs.declared.command.Command.TheVariants.{Check, Scl}

@@ -2,14 +2,14 @@
 use Rattle.std.proofs.Common.{◌≡◌, ℕ, ◌⊎◌, inl, inr, List, [], ℤ, refl, ap, ap₂, ◌∙◌, subst, sym, arith}
 use Rattle.sc_theory.specs.Chains.{Chain, IsBalanced}
 use Rattle.sc_theory.specs.Fatgraphs.{Sides, IsFatgraph}
-use Rattle.sc_chain.specs.declared.fault.Kind.{Kind}
+use Rattle.sc_line.specs.declared.fault.Kind.{Kind}
 use Rattle.sc_chain.specs.declared.lines.RawLine.{RawLine}
 use Rattle.sc_chain.specs.ChainText.{IsChainText, IsFirstMalformed}
 use Rattle.sc_chain.specs.Balance.{IsFirstUnbalanced}
 use Rattle.sc_reduce.specs.Lines.{chain_of, IsWithin, HasManyWords, HasManyPositions}
-use Rattle.sc_text.specs.Faults.{IsFirstFault}
-use Rattle.sc_text.proofs.FaultLaws.{first_fault-unique, faultless_first}
-use Rattle.sc_text.proofs.OneText.{SameSurface}
+use Rattle.sc_line.specs.Faults.{IsFirstFault}
+use Rattle.sc_line.proofs.FaultLaws.{first_fault-unique, faultless_first}
+use Rattle.sc_text.proofs.SurfaceLaws.{SameSurface}
 use Rattle.sc_fatgraph.specs.declared.flaws.FlawKind.{FlawKind}
 use Rattle.sc_fatgraph.specs.Flaws.{IsFirstFlaw}
 use Rattle.sc_fatgraph.proofs.FlawLaws.{fatgraph_has_none, first_flaw_alone}

@@ -7,7 +7,7 @@ use Rattle.sc_theory.specs.Chains.{Chain, positions, chain_total, IsBalanced}
 use Rattle.sc_theory.specs.Fatgraphs.{Sides, IsFatgraph, cost}
 use Rattle.sc_theory.specs.Prices.{Vouch}
 use Rattle.sc_theory.proofs.Reduction.{cases_option}
-use Rattle.sc_chain.specs.declared.fault.Kind.{Kind}
+use Rattle.sc_line.specs.declared.fault.Kind.{Kind}
 use Rattle.sc_chain.specs.declared.lines.RawLine.{RawLine}
 use Rattle.sc_chain.specs.declared.limits.TheConstants.{GENERATORS, MAX_WORDS, MAX_POSITIONS}
 use Rattle.sc_chain.specs.ChainText.{IsChainText, line_case, line_at, line_kind, text_lines, raw_lines}
@@ -17,9 +17,9 @@ use Rattle.sc_chain.proofs.Balanced.{chain_total_beyond}
 use Rattle.sc_chain.proofs.ReadingLaws.{raw_lines_in_range}
 use Rattle.sc_reduce.specs.Lines.{chain_of, IsWithin}
 use Rattle.sc_reduce.proofs.LineLaws.{generators_of_chain}
-use Rattle.sc_text.specs.Faults.{Plan, IsFaultless, fault_at}
+use Rattle.sc_line.specs.Faults.{Plan, IsFaultless, fault_at}
 use Rattle.sc_text.specs.Surfaces.{surface_table}
-use Rattle.sc_text.proofs.Readable.{readable_text}
+use Rattle.sc_text.proofs.SurfaceLaws.{readable_text}
 use Rattle.sc_certificate.specs.Certificates.{Certificate, certificate_plan}
 use Rattle.sc_certificate.proofs.TextLaws.{faultless_is_text}
 use Rattle.sc_fatgraph.specs.declared.flaws.FlawKind.{FlawKind}
@@ -34,7 +34,7 @@ use Rattle.sc_prices.specs.Rows.{start_of}
 use Rattle.sc_prices.proofs.TableFlaws.{flawless_vouch}
 use Rattle.sc_fraction.specs.declared.frac.Frac.{Frac}
 use Rattle.sc_fraction.specs.Frac.{IsQuotient}
-use Rattle.sc_fraction.proofs.Exact.{exact_quotient}
+use Rattle.sc_whole.proofs.ExactDivision.{exact_quotient}
 use Rattle.sc_fraction.proofs.Arithmetic.{divided_positive, divided_coprime}
 use Rattle.std.proofs.lemmas.Nat.Gcd.{IsGcd-swap}
 use Rattle.sc_whole.proofs.DivisorLaws.{gcd_exists, IsGcd-pos}

@@ -1,7 +1,7 @@
 -- The status and the text of what a command answers.
 use Rattle.std.specs.Prelude.{◌≡◌, ℕ, List, []}
-use Rattle.sc_chain.specs.declared.fault.TextFault.{TextFault}
-use Rattle.sc_chain.specs.declared.fault.TextFault.TheVariants as faults
+use Rattle.sc_line.specs.declared.fault.TextFault.{TextFault}
+use Rattle.sc_line.specs.declared.fault.TextFault.TheVariants as faults
 use Rattle.sc_app.specs.declared.answer.Answer.{Answer}
 use Rattle.sc_app.specs.declared.answer.Answer.TheVariants.{Text, Fault, ManyWords, ManyPositions, Rejection, Unsolved}
 use Rattle.sc_app.specs.declared.status.Status.{Status}

@@ -2,7 +2,7 @@
 use Rattle.std.specs.Prelude.{◌≡◌, ℕ, List, [], ◌++◌, codes}
 use Rattle.sc_theory.specs.Fatgraphs.{IsFatgraph, IsLeast}
 use Rattle.sc_fraction.specs.Quotient.{quotient_text}
-use Rattle.sc_text.specs.Faults.{IsFirstFault}
+use Rattle.sc_line.specs.Faults.{IsFirstFault}
 use Rattle.sc_text.specs.ValueLines.{Quotient}
 use Rattle.sc_certificate.specs.Certificates.{Certificate, certificate_plan}
 use Rattle.sc_prices.specs.Conditions.{HasItsValue, AllHold, IsFirstFailing}

@@ -3,7 +3,7 @@ use Rattle.std.specs.Prelude.{◌≡◌, ◌⊎◌, ℕ, eqb, Bool, if◌then◌
 use Rattle.std.specs.List.{starts_with}
 use Rattle.sc_theory.specs.Chains.{Chain}
 use Rattle.sc_theory.specs.Fatgraphs.{Sides, IsFatgraph}
-use Rattle.sc_text.specs.Faults.{Plan, IsFirstFault}
+use Rattle.sc_line.specs.Faults.{Plan, IsFirstFault}
 use Rattle.sc_text.specs.Surfaces.{surface_text, surface_table, IsSurfaceInRange}
 use Rattle.sc_fatgraph.specs.Flaws.{IsFirstFlaw}
 use Rattle.sc_certificate.specs.Certificates.{Certificate, certificate_text, heading, certificate_plan, IsCertificateInRange}

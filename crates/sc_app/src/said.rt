@@ -1,7 +1,7 @@
 //! The surface that an input says, as its text or in a certificate. What kind of text a first line heads is decided here.
 
 ghost use Rattle.std.specs.Prelude.{◌≡◌, IfOk, IfErr};
-ghost use Rattle.sc_text.specs.Faults.{IsFaultOf};
+ghost use Rattle.sc_line.specs.Faults.{IsFaultOf};
 ghost use Rattle.sc_app.specs.Said.{IsSaid, Says, heading_of, is_headed_as_certificate, plan_for};
 
 use crate::answer::Answer;

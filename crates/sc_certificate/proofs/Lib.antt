@@ -1,11 +1,6 @@
 pub mod SmallLists
-pub mod FormatLaws
 pub mod PivotLaws
 pub mod CertificateLaws
 pub mod TextLaws
-pub mod DueLaws
-pub mod PartLaws
-pub mod ListLaws
-pub mod BodyLaws
-pub mod ReaderLaws
-pub mod ReadTexts
+pub mod LineLaws
+pub mod SpelledLaws

@@ -11,22 +11,20 @@ use Rattle.sc_whole.specs.Spelling.{spelling}
 use Rattle.sc_theory.specs.Chains.{Chain, positions}
 use Rattle.sc_theory.specs.Walks.{IsPolygon}
 use Rattle.sc_theory.specs.Columns.{rows}
-use Rattle.sc_chain.specs.declared.fault.Kind.{Kind}
-use Rattle.sc_chain.specs.declared.fault.Kind.TheVariants.{Form, Range}
+use Rattle.sc_line.specs.declared.fault.Kind.{Kind}
+use Rattle.sc_line.specs.declared.fault.Kind.TheVariants.{Form, Range}
 use Rattle.sc_chain.specs.declared.polygon.Pivot.{Pivot}
 use Rattle.sc_chain.specs.declared.limits.TheConstants.{MAX_POSITIONS}
 use Rattle.sc_chain.specs.Polygons.{is_polygon}
 use Rattle.sc_chain.proofs.PolygonLaws.{polygons_are_decided, walk_inside}
-use Rattle.sc_text.specs.declared.fault.LineFault.{LineFault}
-use Rattle.sc_text.specs.declared.fault.LineFault.TheVariants.{Malformed, Memory}
-use Rattle.sc_text.specs.LineFaults.{IsFault}
-use Rattle.sc_text.specs.Faults.{between}
-use Rattle.sc_text.specs.Lines.{Line, Field, fields, number_of, first_number, IsNarrowed, TellsNumber, TakesNumber}
-use Rattle.sc_text.specs.Formats.{IsLineKind}
-use Rattle.sc_text.proofs.LineLaws.{AllLack, fields-spaced, lacks-spelling, number_of-spelling, number_of_is, number_of_from, named_is, taken_is, line_from_fields}
-use Rattle.sc_text.proofs.WordLaws.{between-natural}
-use Rattle.sc_text.proofs.Readable.{named_inverse}
-use Rattle.sc_text.proofs.KindLaws.{IsLineOf, kind_from}
+use Rattle.sc_line.specs.declared.fault.LineFault.{LineFault}
+use Rattle.sc_line.specs.declared.fault.LineFault.TheVariants.{Malformed, Memory}
+use Rattle.sc_line.specs.LineFaults.{IsFault}
+use Rattle.sc_line.specs.Faults.{between}
+use Rattle.sc_line.specs.Lines.{AllLack, Line, Field, fields, number_of, first_number, IsNarrowed, TellsNumber, TakesNumber}
+use Rattle.sc_line.specs.Formats.{IsLineKind}
+use Rattle.sc_line.proofs.LineLaws.{fields-spaced, lacks-spelling, number_of-spelling, number_of_is, number_of_from, named_is, taken_is, line_from_fields}
+use Rattle.sc_line.proofs.NumberLaws.{between-natural, named_inverse, IsLineOf, kind_from}
 use Rattle.sc_certificate.specs.PivotLines.{pivot_line, pivot_row, pivot_in, pivot_fault, walk_fault, IsNoPosition, is_natural, is_below, are_naturals, naturals_of, IsPivotInRange}
 
 abbrev numbers : List ℕ → List Field

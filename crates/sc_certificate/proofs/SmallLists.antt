@@ -3,10 +3,10 @@ use Rattle.std.proofs.Common.{◌≡◌, ◌↔◌, Bool, true, ◌&&◌, List, 
 use Rattle.std.specs.Option.{option_map_or}
 use Rattle.std.specs.List.{AllByRecursion, list_all}
 use Rattle.sc_text.specs.declared.limits.TheConstants.{MAX_PRICE, MAX_ENTRY}
-use Rattle.sc_text.specs.Faults.{from_to}
+use Rattle.sc_line.specs.Faults.{from_to}
 use Rattle.sc_text.specs.PriceLines.{of_size, IsScaleInRange, IsPriceInRange}
 use Rattle.sc_text.specs.TableLines.{IsEntryInRange}
-use Rattle.sc_text.proofs.LineLaws.{in_range_test, in_range_from_test}
+use Rattle.sc_line.proofs.LineLaws.{in_range_test, in_range_from_test}
 use Rattle.sc_certificate.specs.Sizes.{IsSmallList, list_of}
 use Rattle.std.proofs.lemmas.Bool.{and_parts, and_from}
 

@@ -1,21 +1,25 @@
 -- The text of a certificate.
-use Rattle.std.specs.Prelude.{◌≡◌, ℕ, ◌≤◌, List, [], ◌∷◌, ◌++◌, map, length, codes}
-use Rattle.std.specs.List.{AllByRecursion, zip, enumerate_from}
+use Rattle.std.specs.Prelude.{◌≡◌, ℕ, ◌≤◌, Bool, false, List, [], length, Option, None, ℤ, codes}
+use Rattle.std.specs.List.{AllByRecursion}
+use Rattle.sc_theory.specs.declared.Side.{Side}
+use Rattle.sc_theory.specs.Words.{Word}
 use Rattle.sc_theory.specs.Chains.{Chain, positions}
 use Rattle.sc_theory.specs.Fatgraphs.{Sides}
 use Rattle.sc_theory.specs.Prices.{Prices, Tables, pairs}
 use Rattle.sc_chain.specs.declared.polygon.Pivot.{Pivot}
-use Rattle.sc_text.specs.declared.limits.TheConstants.{MAX_COPIES, MAX_SIDES, MAX_PIVOTS}
-use Rattle.sc_text.specs.Lines.{Line, text_of}
+use Rattle.sc_line.specs.Lines.{Line, text_of}
+use Rattle.sc_line.specs.Faults.{Plan}
+use Rattle.sc_line.specs.Formats.{Format, plan_of}
+use Rattle.sc_line.specs.Forms.{Form, Counted, Both, and_also, literal, one, counted, both, as_form}
+use Rattle.sc_text.specs.declared.limits.Limits.{Limits}
+use Rattle.sc_text.specs.declared.limits.TheConstants.{VERSION_1, MAX_COPIES, MAX_SIDES, MAX_PIVOTS}
 use Rattle.sc_text.specs.Sides.{IsSideInRange}
-use Rattle.sc_text.specs.Faults.{Plan}
-use Rattle.sc_text.specs.Surfaces.{ending, count_line, words_lines, sides_lines, IsChainInRange}
-use Rattle.sc_text.specs.PriceLines.{scale_line, base_line, pair_line}
-use Rattle.sc_text.specs.ValueLines.{Quotient, value_line, value_row, value_in, IsValueInRange}
-use Rattle.sc_text.specs.TableLines.{from_line, from_row, entries_in, IsRowInRange}
-use Rattle.sc_text.specs.Formats.{Format, told, a_line, plan_of, literal, count, lines_of, chain_lines, side_lines, price_lines}
-use Rattle.sc_certificate.specs.PivotLines.{pivot_line, pivot_row, pivot_in, IsPivotInRange}
-use Rattle.sc_certificate.specs.Sizes.{IsSmallList, FitsCounts}
+use Rattle.sc_text.specs.ValueLines.{Quotient, a_value, IsValueInRange}
+use Rattle.sc_text.specs.TableLines.{IsRowInRange}
+use Rattle.sc_text.specs.Parts.{words_form, copies_form, sides_form, scale_form, bases_form, pairs_form, tables_form}
+use Rattle.sc_text.specs.Surfaces.{ending, uncounted, IsChainInRange}
+use Rattle.sc_certificate.specs.PivotLines.{a_pivot, IsPivotInRange}
+use Rattle.sc_certificate.specs.Sizes.{IsSmallList, FitsCounts, list_of}
 
 -- what a certificate says: a surface over copies of a chain and its value, a price list with its tables, and the journal
 -- of a solver
@@ -31,27 +35,108 @@ pub record Certificate : Type 0 where
 abbrev pub heading : Line
 heading = codes "scallop certificate 1"
 
--- the lines of a price list: its scale, the price of each word, and that of each pair
-abbrev pub list_lines : Chain → Prices → List Line
-list_lines c list =
-    scale_line list.scale ∷ (map base_line list.base ++ map (λ e. pair_line e.0 e.1) (zip (pairs c) list.pair))
+-- ---- the form, part by part from the last: what the parts tell, what was read of them, their lines
 
--- the lines of distance tables: the row of each start
-abbrev pub tables_lines : Tables → List Line
-tables_lines tables = map (λ e. from_line e.0 e.1) (enumerate_from 0 tables)
+abbrev pub journal_form : Limits → Chain → Form (Counted Pivot) (List Pivot)
+journal_form m c = counted (codes "pivots") m.pivots (λ before. a_pivot c)
 
--- the lines of a journal: how many pivots there are, and the pivots
-abbrev pub journal_lines : List Pivot → List Line
-journal_lines journal = count_line (codes "pivots") (length journal) ∷ map pivot_line journal
+abbrev pub JournalTold : Type 0
+JournalTold = Both (List Pivot) (Unit {0})
 
+abbrev pub JournalRead : Type 0
+JournalRead = Both (Counted Pivot) Bool
+
+abbrev pub from_journal : Limits → Chain → Form JournalRead JournalTold
+from_journal m c = both (journal_form m c) (λ journal. literal ending)
+
+abbrev pub from_tables : Limits → Chain → Form (Both Tables JournalRead) (Both Tables JournalTold)
+from_tables m c = both (tables_form (positions c)) (λ tables. from_journal m c)
+
+abbrev pub PairsTold : Type 0
+PairsTold = Both (List ℤ) (Both Tables JournalTold)
+
+abbrev pub PairsRead : Type 0
+PairsRead = Both (List ℤ) (Both Tables JournalRead)
+
+abbrev pub from_pairs : Limits → Chain → Form PairsRead PairsTold
+from_pairs m c = both (pairs_form (pairs c)) (λ pair. from_tables m c)
+
+abbrev pub from_bases : Limits → Chain → Form (Both (List ℤ) PairsRead) (Both (List ℤ) PairsTold)
+from_bases m c = both (bases_form (length c)) (λ base. from_pairs m c)
+
+abbrev pub ScaleTold : Type 0
+ScaleTold = Both ℤ (Both (List ℤ) PairsTold)
+
+abbrev pub ScaleRead : Type 0
+ScaleRead = Both (Option ℤ) (Both (List ℤ) PairsRead)
+
+abbrev pub from_scale : Limits → Chain → Form ScaleRead ScaleTold
+from_scale m c = both scale_form (λ scale. from_bases m c)
+
+abbrev pub from_sides : Limits → Chain → Form (Both (Counted Side) ScaleRead) (Both Sides ScaleTold)
+from_sides m c = both (sides_form m) (λ g. from_scale m c)
+
+abbrev pub BodyTold : Type 0
+BodyTold = Both ℕ (Both Sides ScaleTold)
+
+abbrev pub BodyRead : Type 0
+BodyRead = Both (Option ℕ) (Both (Counted Side) ScaleRead)
+
+abbrev pub body_form : Limits → Chain → Form BodyRead BodyTold
+body_form m c = both (copies_form m) (λ n. from_sides m c)
+
+-- the lines behind the words
+abbrev pub ValueTold : Type 0
+ValueTold = Both Quotient BodyTold
+
+abbrev pub from_value : Limits → Chain → Form (Both (Option Quotient) BodyRead) ValueTold
+from_value m c = both (one a_value) (λ q. body_form m c)
+
+-- the heading and the words
+abbrev pub FrontTold : Type 0
+FrontTold = Both (Unit {0}) Chain
+
+abbrev pub front_form : Limits → Form (Both Bool (Counted (ℕ × Word))) FrontTold
+front_form m = both (literal heading) (λ u. words_form m)
+
+abbrev pub Told : Type 0
+Told = Both FrontTold ValueTold
+
+-- a certificate of what its parts tell, and back
+abbrev pub certificate_told : Told → Certificate
+certificate_told t = record {
+  chain = t.first.second;
+  value = t.second.first;
+  copies = t.second.second.first;
+  sides = t.second.second.second.first;
+  list = list_of t.second.second.second.second.first t.second.second.second.second.second.first t.second.second.second.second.second.second.first;
+  tables = t.second.second.second.second.second.second.second.first;
+  journal = t.second.second.second.second.second.second.second.second.first;
+}
+
+abbrev pub told_by : Certificate → Told
+told_by v =
+    and_also (and_also tt v.chain) (and_also v.value (and_also v.copies (and_also v.sides
+    (and_also v.list.scale (and_also v.list.base (and_also v.list.pair (and_also v.tables (and_also v.journal tt))))))))
+
+abbrev pub certificate_form : Limits → Form (Both (Both Bool (Counted (ℕ × Word))) (Both (Option Quotient) BodyRead)) Certificate
+certificate_form m = as_form (both (front_form m) (λ x. from_value m x.second)) certificate_told told_by
+
+abbrev pub no_body : BodyRead
+no_body = and_also None (and_also uncounted (and_also None (and_also [] (and_also [] (and_also [] (and_also uncounted false))))))
+
+abbrev pub certificate_due : Limits → Format Certificate
+certificate_due m = (certificate_form m).due (and_also (and_also false uncounted) (and_also None no_body))
+
+-- the lines and the text of a certificate, and which line of one is due
 abbrev pub certificate_lines : Certificate → List Line
-certificate_lines v =
-    heading ∷ (words_lines v.chain
-    ++ (value_line v.value ∷ count_line (codes "copies") v.copies ∷ (sides_lines v.sides
-    ++ (list_lines v.chain v.list ++ (tables_lines v.tables ++ (journal_lines v.journal ++ ending ∷ []))))))
+certificate_lines v = (certificate_form VERSION_1).lines v
 
 abbrev pub certificate_text : Certificate → List ℕ
 certificate_text v = text_of (certificate_lines v)
+
+unfoldable pub certificate_plan : Plan
+certificate_plan = plan_of (certificate_due VERSION_1)
 
 -- what a certificate may say
 pub record IsCertificateInRange (v : Certificate) : Type 0 where
@@ -67,35 +152,3 @@ pub record IsCertificateInRange (v : Certificate) : Type 0 where
   pub tables : AllByRecursion (IsRowInRange (positions v.chain)) v.tables
   pub few_pivots : length v.journal ≤ MAX_PIVOTS
   pub journal : AllByRecursion (IsPivotInRange v.chain) v.journal
-
--- ---- the format, line by line
-
--- a row for each start, and the journal
-abbrev pub table_lines : {V : Type 0} → Chain → (Tables → Format V) → Format V
-table_lines c rest = lines_of (positions c) (λ rows. from_row (positions c) (length rows)) entries_in [] rest
-
-abbrev pub pivot_lines : {V : Type 0} → Chain → (List Pivot → Format V) → Format V
-pivot_lines c rest = count (codes "pivots") 0 MAX_PIVOTS (λ k. lines_of k (λ before. pivot_row c) pivot_in [] rest)
-
-unfoldable pub certificate_format : Format Certificate
-certificate_format =
-    literal heading (chain_lines (λ c.
-    a_line value_row (λ value.
-    count (codes "copies") 1 MAX_COPIES (λ n.
-    side_lines (λ g.
-    price_lines c (λ list.
-    table_lines c (λ tables.
-    pivot_lines c (λ journal.
-    literal ending (told (record {
-      chain = c;
-      value = value_in value;
-      copies = n;
-      sides = g;
-      list = list;
-      tables = tables;
-      journal = journal;
-    }))))))))))
-
--- which line of a certificate is due, and the fault of a line
-abbrev pub certificate_plan : Plan
-certificate_plan = plan_of certificate_format

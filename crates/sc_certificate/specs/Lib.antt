@@ -1,12 +1,8 @@
 pub mod PivotLines
 pub mod Sizes
 pub mod Certificates
-pub mod Progress
-pub mod WordsRead
-pub mod SidesRead
-pub mod Texts
-pub mod Reading
-pub mod BodyRead
-pub mod ListRead
-pub mod Head
-pub mod JournalRead
+pub mod Heads
+pub mod Fronts
+pub mod FrontRead
+pub mod CertificateRead
+pub mod Spelled

@@ -6,15 +6,14 @@ use Rattle.sc_whole.specs.Spelling.{spelling}
 use Rattle.sc_theory.specs.Chains.{Chain}
 use Rattle.sc_theory.specs.Columns.{rows}
 use Rattle.sc_theory.specs.Walks.{IsPolygon}
-use Rattle.sc_chain.specs.declared.fault.Kind.{Kind}
-use Rattle.sc_chain.specs.declared.fault.Kind.TheVariants.{Form, Range}
+use Rattle.sc_line.specs.declared.fault.Kind.{Kind}
+use Rattle.sc_line.specs.declared.fault.Kind.TheVariants.{Form, Range}
 use Rattle.sc_chain.specs.declared.polygon.Pivot.{Pivot}
 use Rattle.sc_chain.specs.declared.limits.TheConstants.{MAX_POSITIONS}
 use Rattle.sc_chain.specs.Polygons.{is_polygon}
-use Rattle.sc_text.specs.Lines.{Line, Field, spaced, fields, number_of}
-use Rattle.sc_text.specs.Faults.{NumberRange, named_fault}
-use Rattle.sc_text.specs.Surfaces.{natural}
-use Rattle.sc_text.specs.Formats.{natural_in}
+use Rattle.sc_line.specs.Lines.{Line, Field, spaced, fields, number_of, natural, natural_in}
+use Rattle.sc_line.specs.Faults.{NumberRange, named_fault}
+use Rattle.sc_line.specs.Forms.{LineKind}
 
 -- the line of a pivot: its row, and the positions of its polygon
 abbrev pub pivot_line : Pivot → Line
@@ -61,3 +60,7 @@ pivot_in line = record { row = natural_in 1 line; polygon = naturals_of (drop 2 
 pub record IsPivotInRange (c : Chain) (p : Pivot) : Type 0 where
   pub row : p.row < rows c
   pub polygon : IsPolygon c p.polygon
+
+-- the line of a pivot of a chain
+abbrev pub a_pivot : Chain → LineKind Pivot
+a_pivot c = record { line = pivot_line; fault = pivot_row c; value = pivot_in }

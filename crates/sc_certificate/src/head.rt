@@ -1,17 +1,16 @@
 //! What is known once the line of the value was read: the chain with its pairs, and the value.
 
-ghost use Rattle.std.specs.Prelude.{◌≡◌, IfErr, IfOk, None};
+ghost use Rattle.std.specs.Prelude.{◌≡◌, IfErr, IfOk};
 ghost use Rattle.sc_theory.specs.Prices.{pairs as pairs_of};
-ghost use Rattle.sc_text.specs.LineFaults.{IsFault};
+ghost use Rattle.sc_line.specs.LineFaults.{IsFault};
 ghost use Rattle.sc_text.specs.Surfaces.{IsChainInRange};
-ghost use Rattle.sc_text.specs.Formats.{Format};
-ghost use Rattle.sc_text.specs.ValueLines.{Quotient, value_row, quotient_of};
-ghost use Rattle.sc_certificate.specs.Certificates.{Certificate};
-ghost use Rattle.sc_certificate.specs.Progress.{Steps, value_due};
+ghost use Rattle.sc_line.specs.Forms.{Tells};
+ghost use Rattle.sc_text.specs.ValueLines.{a_value, quotient_of};
 
 use sc_chain::{Chain, ChainFault, Pairs, Word};
 use sc_fraction::Frac;
-use sc_text::{LineFault, value_line};
+use sc_line::LineFault;
+use sc_text::value_line;
 use std::alloc::{AllocError, Global};
 use std::marker::Model;
 
@@ -24,11 +23,11 @@ pub struct Head {
 }
 
 impl Model for Head {
-    ghost use Rattle.sc_certificate.specs.Progress.{ChainAndValue};
+    ghost use Rattle.sc_certificate.specs.Heads.{ChainAndValue};
 
     ghost Value = { ChainAndValue };
 
-    ghost use Rattle.sc_certificate.specs.Head.{chain_and_value, HasItsPairs};
+    ghost use Rattle.sc_certificate.specs.Heads.{chain_and_value, HasItsPairs};
 
     ghost view = { chain_and_value };
 
@@ -65,8 +64,8 @@ impl Head {
     pub fn read(alloc: Global, line: &[u8], words: &[(u32, Word)]) -> Result<Head, LineFault>
         requires { IsChainInRange words.now }
         ensures chain { IfOk result (λ h. h.chain ≡ words.now) }
-        ensures ok { IfOk result (λ h. (rest : Quotient → Format Certificate) → Steps (value_due None rest) (rest h.value) line.now) }
-        ensures err { IfErr result (IsFault (value_row line.now)) }
+        ensures ok { IfOk result (λ h. Tells a_value line.now h.value) }
+        ensures err { IfErr result (IsFault (a_value.fault line.now)) }
     {
         let value = value_line(line)?;
         let chain = chain_of(alloc, words)?;

@@ -1,9 +1,13 @@
 //! Laws of certificate texts.
 
-ghost use Rattle.std.specs.Prelude.{◌≡◌, ℕ, List};
+ghost use Rattle.std.specs.Prelude.{◌≡◌, ℕ, List, Result, MatchResult};
+ghost use Rattle.sc_line.specs.declared.fault.TextFault.{TextFault};
+ghost use Rattle.sc_line.specs.declared.fault.TextFault.TheVariants.{Memory};
+ghost use Rattle.sc_certificate.specs.declared.certificate.CertificateText.{CertificateText};
+ghost use Rattle.sc_certificate.specs.CertificateRead.{certificate_of, IsCertificateRead};
 ghost use Rattle.sc_theory.specs.Chains.{Chain};
-ghost use Rattle.sc_text.specs.Faults.{IsFaultless};
-ghost use Rattle.sc_text.specs.Formats.{IsLineKind};
+ghost use Rattle.sc_line.specs.Faults.{IsFaultless};
+ghost use Rattle.sc_line.specs.Formats.{IsLineKind};
 ghost use Rattle.sc_certificate.specs.PivotLines.{pivot_row, pivot_in, pivot_line, IsPivotInRange};
 ghost use Rattle.sc_certificate.specs.Certificates.{Certificate, certificate_text, certificate_plan, IsCertificateInRange};
 
@@ -25,4 +29,10 @@ pub fn faultless_is_certificate_text()
 /// No two certificates in their ranges have the same text.
 pub fn certificate_text_is_of_one_certificate()
     ensures { (v w : Certificate) → IsCertificateInRange v → IsCertificateInRange w → certificate_text v ≡ certificate_text w → v ≡ w }
+{}
+
+/// What was printed of a certificate is read as the same certificate, unless memory runs out.
+pub fn printed_certificates_are_read()
+    ensures { (v : Certificate) (r : Result CertificateText TextFault) → IsCertificateInRange v → IsCertificateRead (certificate_text v) r
+        → MatchResult r (λ t. certificate_of t ≡ v) (λ e. e ≡ Memory) }
 {}

@@ -1,26 +1,23 @@
 //! The text of a certificate: a surface with a price list, the tables that vouch for the list, and the journal of a solver.
 #![tactic(auto)]
 
-mod body;
 mod certificate;
+mod front;
 mod head;
-mod journal;
+mod items;
 mod laws;
-mod list;
 mod pivots;
 mod price_list;
 mod reader;
-mod sides;
 mod tables;
-mod words;
 
 pub use certificate::CertificateText;
 pub use laws::{
     certificate_text_is_faultless, certificate_text_is_of_one_certificate,
-    faultless_is_certificate_text, pivot_lines_are_a_kind,
+    faultless_is_certificate_text, pivot_lines_are_a_kind, printed_certificates_are_read,
 };
 pub use price_list::PriceList;
-pub use reader::{CertificateReader, read_certificate_text};
+pub use reader::read_certificate_text;
 pub use tables::{Row, Tables};
 
 #[cfg(test)]

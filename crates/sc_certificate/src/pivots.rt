@@ -5,14 +5,15 @@ ghost use Rattle.sc_whole.specs.Spelling.{spelling};
 ghost use Rattle.sc_theory.specs.Chains.{Chain as AnyChain, positions};
 ghost use Rattle.sc_theory.specs.Prices.{pairs as pairs_of};
 ghost use Rattle.sc_chain.specs.declared.limits.TheConstants.{MAX_POSITIONS};
-ghost use Rattle.sc_chain.specs.declared.fault.Kind.TheVariants as kinds;
-ghost use Rattle.sc_text.specs.LineFaults.{IsFault};
-ghost use Rattle.sc_text.specs.Lines.{IsNarrowed};
+ghost use Rattle.sc_line.specs.declared.fault.Kind.TheVariants as kinds;
+ghost use Rattle.sc_line.specs.LineFaults.{IsFault};
+ghost use Rattle.sc_line.specs.Lines.{IsNarrowed};
 ghost use Rattle.sc_certificate.specs.PivotLines as lines;
 
+use crate::head::Head;
 use sc_chain::limits::MAX_POSITIONS;
-use sc_chain::{Chain, Kind, Pairs, Pivot, Polygon};
-use sc_text::{Fields, LineFault, in_range, number_of};
+use sc_chain::{Chain, Pairs, Pivot, Polygon};
+use sc_line::{Fields, Kind, LineFault, LineItem, in_range, number_of};
 use std::alloc::Global;
 
 // The position that a field is.
@@ -71,4 +72,26 @@ pub fn pivot_line(
     };
     let row = row_of(row, row_count)?;
     Ok(Pivot { row, polygon })
+}
+
+/// The lines of the pivots of a chain.
+#[derive(Drop)]
+pub struct PivotLines;
+
+impl LineItem for PivotLines {
+    type Context = Head;
+
+    type Value = Pivot;
+
+    ghost kind = { λ k head before. lines.a_pivot head.chain };
+
+    fn read(
+        &self,
+        alloc: Global,
+        line: &[u8],
+        _before: &[Pivot],
+        head: &Head,
+    ) -> Result<Pivot, LineFault> {
+        pivot_line(alloc, line, head.chain(), head.pairs())
+    }
 }

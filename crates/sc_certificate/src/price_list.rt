@@ -2,7 +2,7 @@
 
 ghost use Rattle.std.specs.Prelude.{◌≡◌, ◌↔◌, ◌&&◌, pos, IsSome, IfSome};
 ghost use Rattle.std.specs.List.{list_all};
-ghost use Rattle.sc_text.specs.Faults.{from_to};
+ghost use Rattle.sc_line.specs.Faults.{from_to};
 ghost use Rattle.sc_text.specs.PriceLines.{of_size};
 ghost use Rattle.sc_certificate.specs.Sizes.{IsSmallList, list_of};
 
@@ -68,6 +68,14 @@ impl PriceList {
         } else {
             None
         }
+    }
+
+    /// The list of prices that are in their ranges.
+    pub fn of_small(scale: i128, base: Vec<i128>, pair: Vec<i128>) -> PriceList
+        requires { IsSmallList (list_of scale base.items pair.items) }
+        ensures { result ≡ list_of scale base.items pair.items }
+    {
+        PriceList { scale, base, pair }
     }
 
     /// The scale: what a covering list asks of each closed walk.

@@ -1,157 +1,190 @@
 //! The reader of a certificate text.
 
-ghost use Rattle.std.specs.Prelude.{◌≡◌, ◌⊎◌, ◌+◌, [], ℕ, true, is_some, IsErrAnd, IfOk, IfErr, IfSome, IfNone, OnOk, OnErr, Some, None};
-ghost use Rattle.sc_chain.specs.declared.fault.Kind.{Kind};
-ghost use Rattle.sc_chain.specs.declared.fault.TextFault.TheVariants as text_faults;
-ghost use Rattle.sc_text.specs.LineFaults.{at_line as at_the_line};
-ghost use Rattle.sc_text.specs.Faults.{IsFaultless, IsFaultOf, IsFirstFault};
-ghost use Rattle.sc_certificate.specs.Certificates.{Certificate, certificate_text, certificate_plan, IsCertificateInRange};
-ghost use Rattle.sc_certificate.specs.Texts.{certificate_of};
+ghost use Rattle.std.specs.Prelude.{◌≡◌, ◌⊎◌, ℕ, IsErrAnd, IfOk, IfErr, OnOk};
+ghost use Rattle.sc_line.specs.declared.fault.Kind.{Kind};
+ghost use Rattle.sc_line.specs.declared.fault.TextFault.TheVariants as text_faults;
+ghost use Rattle.sc_line.specs.Faults.{IsFaultless, IsFaultOf, IsFirstFault};
+ghost use Rattle.sc_line.specs.Forms.{and_also};
+ghost use Rattle.sc_text.specs.ValueLines.{quotient_of};
+ghost use Rattle.sc_certificate.specs.Certificates.{Certificate, certificate_told, body_form, no_body, certificate_due, certificate_text, certificate_plan, IsCertificateInRange};
+ghost use Rattle.sc_certificate.specs.CertificateRead.{certificate_of, IsCertificateRead};
+ghost use Rattle.sc_certificate.specs.Fronts.{front_at};
+ghost use Rattle.sc_text.specs.declared.limits.TheConstants.{VERSION_1};
+ghost use Rattle.sc_certificate.specs.Heads.{ChainAndValue, lines_at};
 
-use crate::body::Body;
 use crate::certificate::CertificateText;
+use crate::front::Front;
 use crate::head::Head;
-use crate::words::WordsReader;
-use sc_chain::{Kind, TextFault};
-use sc_text::{LineFault, cut, literal_line};
+use crate::items::{BaseLines, PairLines, RowLines};
+use crate::pivots::PivotLines;
+use crate::price_list::PriceList;
+use crate::tables::{Row, Tables};
+use sc_chain::{Chain, Pivot};
+use sc_fraction::Frac;
+use sc_line::{
+    CountLine, Counted, Free, LineFault, LinePart, Literal, Many, One, Pair, TextFault,
+    read_by_lines,
+};
+use sc_text::limits::{Limits, VERSION_1};
+use sc_text::{ScaleLine, SideLines};
+use sc_theory::Side;
 use std::alloc::Global;
-use std::marker::Model;
+use std::marker::PhantomData;
 
-/// Reads a certificate text line by line.
+/// The parts of a certificate text behind its value, which are read by what is known by then: the copies, the sides, the
+/// scale, the prices of words and of pairs, the tables, the journal, and the last line.
+type Body = Pair<
+    Free<One<CountLine>, Head>,
+    Pair<
+        Free<Counted<SideLines>, Head>,
+        Pair<
+            Free<One<ScaleLine>, Head>,
+            Pair<
+                Many<BaseLines>,
+                Pair<
+                    Many<PairLines>,
+                    Pair<Many<RowLines>, Pair<Counted<PivotLines>, Free<Literal, Head>>>,
+                >,
+            >,
+        >,
+    >,
+>;
+
+/// What the parts behind the value tell.
+type BodyOut = (
+    u32,
+    (
+        Vec<Side>,
+        (i128, (Vec<i128>, (Vec<i128>, (Vec<Row>, (Vec<Pivot>, ()))))),
+    ),
+);
+
+/// The parts of a certificate text, as far as they were read.
 #[derive(Drop)]
-pub struct CertificateReader {
-    headed: bool,
-    words: WordsReader,
+struct CertificateLines {
+    front: Front,
     head: Option<Head>,
     body: Body,
 }
 
-impl Model for CertificateReader {
-    ghost use Rattle.sc_certificate.specs.Progress.{Progress};
+impl LinePart for CertificateLines {
+    type Context = ();
 
-    ghost Value = { Progress };
+    type Out = (Chain, Frac, BodyOut);
 
-    ghost use Rattle.sc_certificate.specs.Reading.{progress_of, IsReading};
+    ghost Told = { Certificate };
 
-    ghost view = { progress_of };
+    ghost says = { λ out. certificate_told (and_also (and_also tt out.0) (and_also (quotient_of out.1) (⟦<Body as LinePart>⟧.says out.2))) };
 
-    ghost invariant = { IsReading };
-}
+    ghost due = { λ c p. lines_at (front_at p.front) p.head (λ h. ⟦<Body as LinePart>⟧.due h p.body) };
 
-impl CertificateReader {
-    ghost use Rattle.sc_text.specs.LineFaults.{IsFault};
-    ghost use Rattle.sc_text.specs.Formats.{told, due_line};
-    ghost use Rattle.sc_certificate.specs.Certificates.{certificate_format};
-    ghost use Rattle.sc_certificate.specs.Progress.{Steps, fault_due, end_fault, due_of, lines_read};
-
-    /// A reader that has read nothing.
-    pub fn new(alloc: Global) -> CertificateReader
-        ensures due { due_of result ≡ certificate_format }
-        ensures lines { lines_read result ≡ 0 }
-    {
-        CertificateReader {
-            headed: false,
-            words: WordsReader::new(alloc),
-            head: None,
-            body: Body::new(alloc),
+    fn is_whole(&self, _context: &()) -> bool {
+        match &self.head {
+            None => false,
+            Some(head) => self.body.is_whole(head),
         }
     }
 
-    /// The number of the line that is due, counted from 1.
-    pub fn next_line(&self) -> u32
-        ensures { result ≡ lines_read self.now + 1 }
-    {
-        1 + self.headed as u32 + self.words.lines() + self.head.is_some() as u32 + self.body.lines()
-    }
-
-    /// Reads the next line, without its LF. An `Err` changes nothing.
-    pub fn take_line(&mut self, alloc: Global, line: &[u8]) -> Result<(), LineFault>
-        ensures ok { OnOk result (Steps (due_of self.old) (due_of self.new) line.now) }
-        ensures lines { OnOk result (lines_read self.new ≡ lines_read self.old + 1) }
-        ensures err { IfErr result (IsFault (fault_due (due_of self.old) line.now)) }
-        ensures unchanged { OnErr result (self.new ≡ self.old) }
-    {
-        if !self.headed {
-            literal_line(line, b"scallop certificate 1")?;
-            self.headed = true;
-            return Ok(());
-        }
-        if let Some(head) = &self.head {
-            return self.body.take_line(alloc, line, head);
-        }
-        if !self.words.is_whole() {
-            return self.words.take_line(alloc, line);
-        }
-        self.head = Some(Head::read(alloc, line, self.words.words())?);
-        Ok(())
-    }
-
-    // The certificate, if all its lines were read.
-    fn certificate(self) -> Option<CertificateText>
-        ensures told { IfSome result (λ t. due_of self ≡ told (certificate_of t)) }
-        ensures due { IfNone result (is_some (due_line (due_of self)) ≡ true) }
-    {
-        let CertificateReader {
-            headed,
-            words: _,
-            head,
-            body,
-        } = self;
-        if !headed {
-            return None;
-        }
-        body.finish(head?)
-    }
-
-    /// What was read, where the text ends with the bytes `rest` after its last LF.
-    pub fn finish(self, rest: &[u8]) -> Result<CertificateText, Kind>
-        ensures certificate { IfOk result (λ t. due_of self ≡ told (certificate_of t)) }
-        ensures whole { OnOk result (rest.now ≡ []) }
-        ensures fault { IfErr result (λ kind. end_fault (due_of self) rest.now ≡ Some kind) }
-    {
-        match self.certificate() {
-            None => Err(Kind::Ended),
-            Some(certificate) => {
-                if rest.is_empty() {
-                    Ok(certificate)
-                } else {
-                    Err(Kind::Rest)
+    fn take_line(&mut self, alloc: Global, line: &[u8], _context: &()) -> Result<(), LineFault> {
+        match &self.head {
+            Some(head) => self.body.take_line(alloc, line, head),
+            None => {
+                if !self.front.is_whole() {
+                    return self.front.take_line(alloc, line);
                 }
+                self.head = Some(Head::read(alloc, line, self.front.words())?);
+                Ok(())
             }
         }
     }
-}
 
-fn at_line(line: u32, fault: LineFault) -> TextFault
-    ensures { result ≡ at_the_line line fault }
-{
-    match fault {
-        LineFault::Malformed(kind) => TextFault::Malformed { line, kind },
-        LineFault::Memory => TextFault::Memory,
+    fn finish(self, _context: &()) -> Option<(Chain, Frac, BodyOut)> {
+        let CertificateLines {
+            front: _,
+            head,
+            body,
+        } = self;
+        let head = head?;
+        let out = body.finish(&head)?;
+        let (chain, value) = head.into_parts();
+        Some((chain, value, out))
     }
 }
 
-// Reads line by line.
-fn read_lines(alloc: Global, bytes: &[u8]) -> Result<CertificateText, TextFault>
-    ensures text { IfOk result (λ t. bytes.now ≡ certificate_text (certificate_of t)) }
-    ensures in_range { IfOk result (λ t. IsCertificateInRange (certificate_of t)) }
-    ensures faultless { OnOk result (IsFaultless certificate_plan bytes.now) }
-    ensures malformed { IfErr result (IsFaultOf certificate_plan bytes.now) }
+/// The parts behind the value, of which nothing was read.
+fn new_body(alloc: Global, limits: &Limits) -> Body
+    ensures { (h : ChainAndValue) → ⟦<Body as LinePart>⟧.due h result ≡ (body_form limits.now h.chain).due no_body }
 {
-    let mut reader = CertificateReader::new(alloc);
-    let mut rest = bytes;
-    while let Some((line, after)) = cut(rest, b'\n') {
-        let number = reader.next_line();
-        match reader.take_line(alloc, line) {
-            Ok(()) => rest = after,
-            Err(fault) => return Err(at_line(number, fault)),
+    let copies = CountLine {
+        name: b"copies",
+        low: 1,
+        high: limits.copies,
+    };
+    Pair {
+        first: Free {
+            part: One::new(copies),
+            of: PhantomData,
+        },
+        second: Pair {
+            first: Free {
+                part: Counted::new(alloc, b"sides", limits.sides, SideLines),
+                of: PhantomData,
+            },
+            second: Pair {
+                first: Free {
+                    part: One::new(ScaleLine),
+                    of: PhantomData,
+                },
+                second: Pair {
+                    first: Many::new(alloc, BaseLines),
+                    second: Pair {
+                        first: Many::new(alloc, PairLines),
+                        second: Pair {
+                            first: Many::new(alloc, RowLines),
+                            second: Pair {
+                                first: Counted::new(alloc, b"pivots", limits.pivots, PivotLines),
+                                second: Free {
+                                    part: Literal::new(b"end"),
+                                    of: PhantomData,
+                                },
+                            },
+                        },
+                    },
+                },
+            },
+        },
+    }
+}
+
+impl CertificateLines {
+    /// Nothing is read yet.
+    fn new(alloc: Global) -> CertificateLines
+        ensures { ⟦<CertificateLines as LinePart>⟧.due tt result ≡ certificate_due VERSION_1 }
+    {
+        CertificateLines {
+            front: Front::new(alloc),
+            head: None,
+            body: new_body(alloc, &VERSION_1),
         }
     }
-    let line = reader.next_line();
-    match reader.finish(rest) {
-        Ok(certificate) => Ok(certificate),
-        Err(kind) => Err(TextFault::Malformed { line, kind }),
-    }
+}
+
+// Reads by the parts.
+fn read_parts(alloc: Global, bytes: &[u8]) -> Result<CertificateText, TextFault>
+    ensures { IsCertificateRead bytes.now result }
+{
+    let lines = CertificateLines::new(alloc);
+    let (chain, value, out) = read_by_lines(alloc, lines, &(), bytes)?;
+    let (copies, (sides, (scale, (base, (pair, (rows, (journal, _))))))) = out;
+    Ok(CertificateText {
+        chain,
+        value,
+        copies,
+        sides,
+        list: PriceList::of_small(scale, base, pair),
+        tables: Tables::of_small(rows),
+        journal,
+    })
 }
 
 /// The certificate whose text the bytes are. A fault is the first line, counted from 1, that isn't as it is due, with the
@@ -173,5 +206,5 @@ pub fn read_certificate_text(alloc: Global, bytes: &[u8]) -> Result<CertificateT
     ensures read { (v : Certificate) → IsCertificateInRange v → bytes.now ≡ certificate_text v → IfOk result (λ t. certificate_of t ≡ v) }
     ensures memory { (v : Certificate) → IsCertificateInRange v → bytes.now ≡ certificate_text v → IfErr result (λ e. e ≡ text_faults.Memory) }
 {
-    read_lines(alloc, bytes)
+    read_parts(alloc, bytes)
 }

@@ -105,6 +105,14 @@ impl Tables {
         }
     }
 
+    /// The tables of rows that are in their range.
+    pub fn of_small(rows: Vec<Row>) -> Tables
+        requires { AreSmallTables rows.items }
+        ensures { result ≡ rows.items }
+    {
+        Tables { rows }
+    }
+
     /// Puts a row behind the others. The tables stay as they are where memory runs out.
     pub fn push(&mut self, row: Row) -> Result<(), AllocError>
         ensures ok { OnOk result (self.new ≡ self.old ++ row ∷ []) }

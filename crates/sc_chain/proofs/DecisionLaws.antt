@@ -4,8 +4,8 @@ use Rattle.std.proofs.Common.{◌≡◌, true, false, List, [], ◌∷◌, Optio
 use Rattle.std.specs.List.{filter_map}
 use Rattle.std.proofs.lemmas.Bool.{cases_Bool}
 use Rattle.sc_theory.specs.Words.{Word}
-use Rattle.sc_chain.specs.declared.fault.Kind.{Kind}
-use Rattle.sc_chain.specs.declared.fault.Kind.TheVariants.{Letter, Extra, NotAscii}
+use Rattle.sc_line.specs.declared.fault.Kind.{Kind}
+use Rattle.sc_line.specs.declared.fault.Kind.TheVariants.{Letter, Extra, NotAscii}
 use Rattle.sc_chain.specs.Spelling.{letter_of, word_of}
 use Rattle.sc_chain.specs.ChainText.{Line, line_fields, is_comment, line_case, is_ascii, line_kind, Field, Entry, coefficient_of, begins_number, with_coefficient, fields_case, fields_kind, word_kind, number_kind}
 use Rattle.sc_chain.specs.Decision.{last_word, behind_coefficient, decision}

@@ -12,7 +12,7 @@ use Rattle.std.proofs.lemmas.Int.{ints}
 use Rattle.std.proofs.lemmas.Option.{same_Some, none-some}
 use Rattle.sc_theory.specs.Words.{Word}
 use Rattle.sc_chain.specs.declared.lines.RawLine.{RawLine}
-use Rattle.sc_chain.specs.declared.fault.Kind.{Kind}
+use Rattle.sc_line.specs.declared.fault.Kind.{Kind}
 use Rattle.sc_chain.specs.Spelling.{word_of}
 use Rattle.sc_chain.specs.ChainText.{Line, Field, Entry, is_line_feed, text_lines, without_empty_last, line_at, line_fields, coefficient_of, is_comment, with_coefficient, fields_case, line_case, line_kind, raw_line, raw_lines, IsChainText, IsFirstMalformed, IsRawLine}
 use Rattle.sc_chain.proofs.CoefficientLaws.{IsSmall, coefficient_small}

@@ -8,8 +8,8 @@ use Rattle.sc_theory.specs.Words.{Word}
 use Rattle.sc_theory.specs.Chains.{no_letter}
 use Rattle.sc_chain.specs.Spelling.{word_of}
 use Rattle.sc_chain.specs.declared.lines.RawLine.{RawLine}
-use Rattle.sc_chain.specs.declared.fault.Kind.{Kind}
-use Rattle.sc_chain.specs.declared.fault.Kind.TheVariants.{Coefficient, MissingWord, Letter, Extra, NotAscii}
+use Rattle.sc_line.specs.declared.fault.Kind.{Kind}
+use Rattle.sc_line.specs.declared.fault.Kind.TheVariants.{Coefficient, MissingWord, Letter, Extra, NotAscii}
 use Rattle.sc_chain.specs.declared.limits.TheConstants.{GENERATORS, MAX_COEFFICIENT, COEFFICIENT_DIGITS}
 
 abbrev pub Line : Type 0

@@ -3,8 +3,8 @@ use Rattle.std.specs.Prelude.{List, [], ◌∷◌, Option, Some, None, Result, O
 use Rattle.sc_theory.specs.Words.{Word}
 use Rattle.sc_chain.specs.Spelling.{word_of}
 use Rattle.sc_chain.specs.ChainText.{Field, coefficient_of, begins_number}
-use Rattle.sc_chain.specs.declared.fault.Kind.{Kind}
-use Rattle.sc_chain.specs.declared.fault.Kind.TheVariants.{Coefficient, MissingWord, Letter, Extra}
+use Rattle.sc_line.specs.declared.fault.Kind.{Kind}
+use Rattle.sc_line.specs.declared.fault.Kind.TheVariants.{Coefficient, MissingWord, Letter, Extra}
 
 -- a word that should be the last field
 abbrev pub last_word : ℤ → Option Word → List Field → Result (ℤ × Word) Kind

@@ -7,9 +7,9 @@ ghost use Rattle.sc_chain.specs.Decision as decisions;
 ghost use Rattle.sc_chain.specs.Spelling as spelling;
 
 use crate::coefficient::{begins_number, coefficient_of};
-use crate::fault::Kind;
 use crate::fields::{Fields, without_carriage_return};
 use crate::letter::are_letters;
+use sc_line::Kind;
 
 fn is_ascii(line: &[u8]) -> bool
     ensures { result ≡ texts.is_ascii line.now }

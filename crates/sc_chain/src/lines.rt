@@ -2,14 +2,14 @@
 
 ghost use Rattle.std.specs.Prelude.{◌≡◌, ◌<◌, ◌^◌, ◌⊎◌, ℕ, length, IfOk, IsErrOf};
 ghost use Rattle.std.specs.List.{All};
-ghost use Rattle.sc_chain.specs.declared.fault.Kind.{Kind as AnyKind};
+ghost use Rattle.sc_line.specs.declared.fault.Kind.{Kind as AnyKind};
 ghost use Rattle.sc_chain.specs.ChainText as texts;
 
 use crate::cases::case_of;
-use crate::fault::TextFault;
 use crate::fields::Lines;
 use crate::letter::letters_of;
 use crate::word::Word;
+use sc_line::TextFault;
 use std::alloc::Global;
 
 /// A line of a chain text that has a word.

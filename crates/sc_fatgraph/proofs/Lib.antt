@@ -3,5 +3,4 @@ pub mod MarkedOrbits
 pub mod NextMarks
 pub mod LabelCounts
 pub mod FlawLaws
-pub mod ReadChains
 pub mod TextRanges

@@ -1,8 +1,7 @@
--- A fatgraph is a surface that a text may hold, and a text is read as the surface that it is of.
-use Rattle.std.proofs.Common.{◌≡◌, ℕ, suc, ◌+◌, ◌<◌, List, [], ◌∷◌, length, get_or, Some, All, refl, sym, subst, ◌∙◌, arith}
+-- A fatgraph is a surface that a text may hold.
+use Rattle.std.proofs.Common.{◌≡◌, ℕ, suc, ◌+◌, ◌<◌, List, [], ◌∷◌, length, get_or, All, subst, arith}
 use Rattle.std.specs.List.{AllByRecursion}
 use Rattle.std.proofs.lemmas.List.{get_or_default}
-use Rattle.std.proofs.lemmas.Option.{none-some}
 use Rattle.sc_theory.specs.declared.Letter.{Letter}
 use Rattle.sc_theory.specs.Words.{Word}
 use Rattle.sc_theory.specs.Chains.{Chain, no_word, no_letter, word, first}
@@ -12,12 +11,7 @@ use Rattle.sc_chain.specs.Faults.{IsSmallChain}
 use Rattle.sc_chain.specs.declared.limits.TheConstants.{GENERATORS}
 use Rattle.sc_text.specs.Words.{IsWordInRange}
 use Rattle.sc_text.specs.Sides.{IsSideInRange}
-use Rattle.sc_text.specs.Faults.{fault_at, IsFaultOf}
-use Rattle.sc_text.specs.Surfaces.{surface_table, surface_text, IsSurfaceInRange}
-use Rattle.sc_text.proofs.Faultless.{faultless_text}
-use Rattle.sc_text.proofs.OneText.{one_text}
-use Rattle.sc_chain.specs.declared.fault.TextFault.{TextFault}
-use Rattle.sc_chain.specs.declared.fault.TextFault.TheVariants.{Malformed, Memory}
+use Rattle.sc_text.specs.Surfaces.{IsSurfaceInRange}
 use Rattle.sc_fatgraph.specs.Surfaces.{Surface, IsSurface}
 use Rattle.sc_fatgraph.specs.Texts.{HaveWeights}
 
@@ -60,15 +54,3 @@ surface_in_range f small h weights = record {
   count = h.few_sides;
   sides = by_number IsSideInRange no_side f.sides (side_in_range f small h);
 }
-
--- ---- reading a text again
-
-pub same_surface : (bytes : List ℕ) (c : Chain) (n : ℕ) (g : Sides) (d : Chain) (m : ℕ) (h : Sides) → IsSurfaceInRange c n g → IsSurfaceInRange d m h
-    → bytes ≡ surface_text c n g → bytes ≡ surface_text d m h → (c ≡ d) × (n ≡ m) × (g ≡ h)
-same_surface bytes c n g d m h p q e f = let same = one_text c n g d m h p q (sym e ∙ f) in (same.words, same.copies, same.sides)
-
-pub only_want_of_memory : (bytes : List ℕ) (c : Chain) (n : ℕ) (g : Sides) (fault : TextFault) → IsSurfaceInRange c n g → bytes ≡ surface_text c n g → IsFaultOf surface_table bytes fault → fault ≡ Memory
-only_want_of_memory bytes c n g (Malformed line kind) p e h =
-    let none = faultless_text c n g p line in
-    absurd (none-some kind (sym none ∙ subst (λ (text : List ℕ). fault_at surface_table text line ≡ Some kind) e h.here))
-only_want_of_memory bytes c n g Memory p e h = refl

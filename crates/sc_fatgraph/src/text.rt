@@ -5,11 +5,11 @@ ghost use Rattle.std.specs.Result.{IsErrAnd};
 ghost use Rattle.sc_theory.specs.Chains.{Chain as AnyChain};
 ghost use Rattle.sc_theory.specs.Fatgraphs.{Sides as AnySides};
 ghost use Rattle.sc_chain.specs.Faults.{IsSmallChain};
-ghost use Rattle.sc_chain.specs.declared.fault.Kind.{Kind};
-ghost use Rattle.sc_chain.specs.declared.fault.TextFault.TheVariants as text_faults;
-ghost use Rattle.sc_text.specs.Faults.{IsFaultless, IsFaultOf, IsFirstFault};
+ghost use Rattle.sc_line.specs.declared.fault.Kind.{Kind};
+ghost use Rattle.sc_line.specs.declared.fault.TextFault.TheVariants as text_faults;
+ghost use Rattle.sc_line.specs.Faults.{IsFaultless, IsFaultOf, IsFirstFault};
 ghost use Rattle.sc_text.specs.Surfaces.{surface_text, surface_table, IsSurfaceInRange};
-ghost use Rattle.sc_text.specs.Printing.{AppendsPart};
+ghost use Rattle.sc_line.specs.Printing.{AppendsPart};
 ghost use Rattle.sc_fatgraph.specs.Texts.{text_of_surface, HaveWeights};
 
 use crate::side_list::Sides;

@@ -15,7 +15,7 @@ use Rattle.sc_fraction.specs.declared.frac.Frac.{Frac}
 use Rattle.sc_text.specs.Surfaces.{IsChainInRange}
 use Rattle.sc_chain.specs.declared.polygon.Pivot.{Pivot}
 use Rattle.sc_fatgraph.specs.Surfaces.{Surface, surface}
-use Rattle.sc_fatgraph.proofs.ReadChains.{accepted}
+use Rattle.sc_text.proofs.ReadChains.{accepted}
 use Rattle.sc_theory.specs.Fatgraphs.{IsFatgraph, IsLeast, cost}
 use Rattle.sc_fatgraph.specs.declared.flaws.FlawKind.{FlawKind}
 use Rattle.sc_fatgraph.proofs.FlawLaws as sides

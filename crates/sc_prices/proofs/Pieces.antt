@@ -8,14 +8,17 @@ use Rattle.std.proofs.lemmas.List.Concat.{flat_map-append}
 use Rattle.sc_theory.specs.Prices.{Tables, pairs}
 use Rattle.sc_text.specs.TableLines.{from_line}
 use Rattle.sc_whole.specs.Spelling.{spelling}
-use Rattle.sc_text.specs.Lines.{Line, ended, text_of}
-use Rattle.sc_text.specs.Surfaces.{ending, count_line, words_lines, sides_lines}
+use Rattle.sc_line.specs.Lines.{Line, ended, text_of, count_line}
+use Rattle.sc_text.specs.Surfaces.{ending}
+use Rattle.sc_text.specs.Printing.{words_lines, sides_lines}
 use Rattle.sc_text.specs.PriceLines.{scale_line, base_line, pair_line}
 use Rattle.sc_text.specs.ValueLines.{value_line}
-use Rattle.sc_text.proofs.PrintLaws.{line_flat, flat_map-map, pieces_at, pieces_more, part_after, lines_at}
-use Rattle.sc_text.specs.Printing.{AppendsPart}
+use Rattle.sc_line.proofs.PrintLaws.{line_flat, flat_map-map, pieces_at, pieces_more, part_after, lines_at}
+use Rattle.sc_line.specs.Printing.{AppendsPart}
 use Rattle.sc_certificate.specs.PivotLines.{pivot_line}
-use Rattle.sc_certificate.specs.Certificates.{Certificate, heading, list_lines, tables_lines, journal_lines, certificate_text}
+use Rattle.sc_certificate.specs.Certificates.{Certificate, heading, certificate_text}
+use Rattle.sc_certificate.specs.Spelled.{list_lines, tables_lines, journal_lines}
+use Rattle.sc_certificate.proofs.SpelledLaws.{same_lines}
 use Rattle.sc_prices.specs.declared.printing.Part.{Part}
 use Rattle.sc_prices.specs.declared.printing.TheConstants.{PARTS}
 use Rattle.sc_prices.specs.Parts.{part_text, pair_lines}
@@ -30,8 +33,8 @@ lines_first : (ks ls : List Line) → text_of (ks ++ ls) ≡ text_of ks ++ text_
 lines_first ks ls = flat_map-append ended ks ls
 
 -- the parts in their order are the text
-pub parts_are_text : (v : Certificate) → certificate_text v ≡ flat_map (part_text v) PARTS
-parts_are_text v =
+pub parts_are_text : (v : Certificate) → length v.list.pair ≡ length (pairs v.chain) → certificate_text v ≡ flat_map (part_text v) PARTS
+parts_are_text v count =
     let words : List Line = words_lines v.chain in
     let sides : List Line = sides_lines v.sides in
     let bases : List Line = map base_line v.list.base in
@@ -50,7 +53,8 @@ parts_are_text v =
     ∙ append_assoc (text_of bases) (text_of prices) (text_of from_tables)
     ∙ ap (λ (t : List ℕ). text_of bases ++ (text_of prices ++ t)) behind_list) in
     let behind_value = lines_first sides from_list ∙ ap (λ (t : List ℕ). text_of sides ++ t) list in
-    ap (λ (t : List ℕ). ended heading ++ t)
+    ap text_of (same_lines v count)
+    ∙ ap (λ (t : List ℕ). ended heading ++ t)
     (lines_first words (value_line v.value ∷ count_line (codes "copies") v.copies ∷ (sides ++ from_list))
     ∙ ap (λ (t : List ℕ). text_of words ++ (ended (value_line v.value) ++ (ended (count_line (codes "copies") v.copies) ++ t))) behind_value)
 
@@ -102,12 +106,12 @@ module _ (v : Certificate) (i : ℕ) (d : Part) (inside : i < length PARTS) (old
   pub part_more : new ≡ mid ++ part_text v (get_or PARTS i d) → new ≡ old ++ flat_map (part_text v) (take (i + 1) PARTS)
   part_more here = here ∙ ap (λ (t : List ℕ). t ++ part_text v (get_or PARTS i d)) before ∙ pieces_more (part_text v) old PARTS i d inside
 
-  pub part_stopped : AppendsPart mid new (part_text v (get_or PARTS i d)) → AppendsPart old new (certificate_text v)
-  part_stopped part =
-      subst (AppendsPart old new) (sym (parts_are_text v))
+  pub part_stopped : length v.list.pair ≡ length (pairs v.chain) → AppendsPart mid new (part_text v (get_or PARTS i d)) → AppendsPart old new (certificate_text v)
+  part_stopped count part =
+      subst (AppendsPart old new) (sym (parts_are_text v count))
       (part_after old mid new (flat_map (part_text v) (take i PARTS)) (part_text v (get_or PARTS i d)) (flat_map (part_text v) (drop (i + 1) PARTS)) (flat_map (part_text v) PARTS)
       before part (pieces_at (part_text v) PARTS i d inside))
 
-pub parts_done : (v : Certificate) (i : ℕ) (old mid : List ℕ) → length PARTS ≤ i → mid ≡ old ++ flat_map (part_text v) (take i PARTS) → mid ≡ old ++ certificate_text v
-parts_done v i old mid past before =
-    before ∙ ap (λ ps. old ++ flat_map (part_text v) ps) (take_all i PARTS past) ∙ ap (λ (t : List ℕ). old ++ t) (sym (parts_are_text v))
+pub parts_done : (v : Certificate) (i : ℕ) (old mid : List ℕ) → length v.list.pair ≡ length (pairs v.chain) → length PARTS ≤ i → mid ≡ old ++ flat_map (part_text v) (take i PARTS) → mid ≡ old ++ certificate_text v
+parts_done v i old mid count past before =
+    before ∙ ap (λ ps. old ++ flat_map (part_text v) ps) (take_all i PARTS past) ∙ ap (λ (t : List ℕ). old ++ t) (sym (parts_are_text v count))

@@ -2,12 +2,14 @@
 use Rattle.std.specs.Prelude.{ℕ, ℤ, List, map, length, codes}
 use Rattle.std.specs.List.{zip}
 use Rattle.sc_theory.specs.Prices.{pairs}
-use Rattle.sc_text.specs.Lines.{Line, ended, text_of}
-use Rattle.sc_text.specs.Surfaces.{ending, count_line, words_lines, sides_lines}
+use Rattle.sc_line.specs.Lines.{Line, ended, text_of, count_line}
+use Rattle.sc_text.specs.Surfaces.{ending}
+use Rattle.sc_text.specs.Printing.{words_lines, sides_lines}
 use Rattle.sc_text.specs.PriceLines.{scale_line, base_line, pair_line}
 use Rattle.sc_text.specs.ValueLines.{value_line}
 use Rattle.sc_certificate.specs.PivotLines.{pivot_line}
-use Rattle.sc_certificate.specs.Certificates.{Certificate, heading, tables_lines}
+use Rattle.sc_certificate.specs.Certificates.{Certificate, heading}
+use Rattle.sc_certificate.specs.Spelled.{tables_lines}
 use Rattle.sc_prices.specs.declared.printing.Part.{Part}
 use Rattle.sc_prices.specs.declared.printing.Part.TheVariants.{Heading, Words, Value, Copies, Sides, Scale, Bases, Pairs, Tables, Pivots, Journal, End}
 

@@ -4,9 +4,9 @@ ghost use Rattle.std.specs.Prelude.{◌≡◌, ◌⊎◌, ℕ, ◌*◌, pos, IfO
 ghost use Rattle.std.specs.Result.{IsErrAnd};
 ghost use Rattle.sc_theory.specs.Fatgraphs.{IsLeast, cost};
 ghost use Rattle.sc_fraction.specs.Frac.{IsQuotient};
-ghost use Rattle.sc_chain.specs.declared.fault.Kind.{Kind};
-ghost use Rattle.sc_chain.specs.declared.fault.TextFault.TheVariants as text_faults;
-ghost use Rattle.sc_text.specs.Faults.{IsFaultless, IsFaultOf, IsFirstFault};
+ghost use Rattle.sc_line.specs.declared.fault.Kind.{Kind};
+ghost use Rattle.sc_line.specs.declared.fault.TextFault.TheVariants as text_faults;
+ghost use Rattle.sc_line.specs.Faults.{IsFaultless, IsFaultOf, IsFirstFault};
 ghost use Rattle.sc_certificate.specs.Certificates.{Certificate as AnyCertificate, certificate_text, certificate_plan, IsCertificateInRange};
 
 use crate::judging::verdict_on;

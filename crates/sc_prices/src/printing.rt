@@ -4,12 +4,13 @@ ghost use Rattle.std.specs.Prelude.{◌≡◌, ◌≤◌, ◌∷◌, ◌++◌, p
 ghost use Rattle.std.specs.List.{flat_map};
 ghost use Rattle.sc_whole.specs.Spelling.{spelling};
 ghost use Rattle.sc_chain.specs.declared.limits.TheConstants.{MAX_POSITIONS};
-ghost use Rattle.sc_text.specs.Lines.{ended, text_of};
-ghost use Rattle.sc_text.specs.Printing.{AppendsPart};
+ghost use Rattle.sc_line.specs.Lines.{ended, text_of};
+ghost use Rattle.sc_line.specs.Printing.{AppendsPart};
 ghost use Rattle.sc_text.specs.PriceLines as lines;
 ghost use Rattle.sc_certificate.specs.PivotLines.{pivot_line};
 ghost use Rattle.sc_prices.specs.Parts.{pair_lines};
-ghost use Rattle.sc_certificate.specs.Certificates.{tables_lines, certificate_text, IsCertificateInRange};
+ghost use Rattle.sc_certificate.specs.Spelled.{tables_lines};
+ghost use Rattle.sc_certificate.specs.Certificates.{certificate_text, IsCertificateInRange};
 
 use crate::certificate::Certificate;
 use sc_certificate::Tables;

@@ -1,7 +1,7 @@
 -- The kinds of lines: which lines of each kind have no fault, and what they tell.
-use Rattle.std.proofs.Common.{◌≡◌, ℕ, true, ◌&&◌, eqb, List, [], ◌∷◌, map, length, Option, Some, None, codes, ℤ, pos, neg_ℤ, ◌≤ℤ◌, ◌<ℤ◌, ◌++◌, unsigned_abs, refl, sym, ap, subst, ◌∙◌, arith, inl, inr}
+use Rattle.std.proofs.Common.{◌≡◌, ◌≢◌, ℕ, ◌≤◌, true, ◌&&◌, eqb, leb, List, [], ◌∷◌, map, length, Option, Some, None, codes, ℤ, pos, neg_ℤ, ◌≤ℤ◌, ◌<ℤ◌, ◌++◌, unsigned_abs, refl, sym, ap, subst, ◌∙◌, arith, inl, inr}
 use Rattle.std.specs.List.{list_all, join_with_byte}
-use Rattle.std.proofs.lemmas.Bool.{cases_Bool, and_parts, eqb-true, eq-eqb}
+use Rattle.std.proofs.lemmas.Bool.{cases_Bool, and_parts, eqb-true, eq-eqb, leb-true}
 use Rattle.std.proofs.lemmas.List.{length-map}
 use Rattle.std.proofs.lemmas.Int.{ints}
 use Rattle.std.proofs.lemmas.List.Splits.{slice_split_at, slice_split_none, join_with_byte-slice_split}
@@ -11,57 +11,114 @@ use Rattle.sc_theory.specs.Words.{Word}
 use Rattle.sc_whole.specs.Spelling.{spelling}
 use Rattle.sc_fraction.specs.Quotient.{quotient_text}
 use Rattle.sc_fraction.proofs.Arithmetic.{size_positive}
-use Rattle.sc_chain.specs.declared.fault.Kind.{Kind}
-use Rattle.sc_chain.specs.declared.fault.Kind.TheVariants.{Form, Range}
-use Rattle.sc_text.specs.declared.limits.TheConstants.{MAX_PRICE, MAX_VALUE}
-use Rattle.sc_text.specs.Lines.{Line, Field, fields, numbers_line, number_of}
-use Rattle.sc_text.specs.Words.{word_line, IsWordInRange}
-use Rattle.sc_text.specs.Sides.{side_line, IsSideInRange}
-use Rattle.sc_text.specs.Faults.{from_to, between, numbers_fault, numbers_line_fault}
-use Rattle.sc_text.specs.Surfaces.{count_line, count_in, word_row, side_row}
-use Rattle.sc_text.specs.Formats.{IsLineKind, IsCountInRange, FitsIn, word_in, side_in}
+use Rattle.sc_line.specs.declared.fault.Kind.{Kind}
+use Rattle.sc_line.specs.declared.fault.Kind.TheVariants.{Form, Range, NotReduced}
+use Rattle.sc_chain.specs.Spelling.{word_of}
+use Rattle.sc_text.specs.declared.limits.TheConstants.{MAX_PRICE, MAX_VALUE, MAX_WEIGHT, MAX_LABEL, MAX_SIDE}
+use Rattle.sc_line.specs.Lines.{Line, Field, fields, spaced, numbers_line, number_of, lacks}
+use Rattle.sc_line.specs.Faults.{NumberRange, from_to, between, numbers_fault, numbers_line_fault, named_fault}
+use Rattle.sc_line.specs.Formats.{IsLineKind}
+use Rattle.sc_text.specs.Words.{word_line, spelled, is_reduced, IsWordInRange, FitsIn, word_fault, weighted_word_fault, word_fields_fault, word_row, word_in}
+use Rattle.sc_text.specs.Sides.{side_line, IsSideInRange, side_row, side_in}
 use Rattle.sc_text.specs.PriceLines.{of_size, number_in, known_fault, scale_row, scale_in, scale_line, IsScaleInRange, base_row, base_in, base_line, IsPriceInRange, pair_row, pair_price_in, pair_line}
 use Rattle.sc_text.specs.ValueLines.{Quotient, halves, are_coprime, quotient_fault, fraction_fault, value_fields_fault, value_row, value_in, value_line, IsValueInRange}
 use Rattle.sc_text.specs.TableLines.{Entry, entry_field, is_entry, is_entry_in_range, entries_fault, from_row, entries_in, from_line, IsRowInRange}
-use Rattle.sc_text.proofs.LineLaws.{lacks, lacking, lacks-append, lacks-spelling_but, number_of_is, fields-spaced, lacks-spelling, number_of-spelling, same_bytes, named_is, line_from_fields, IsFromTo, in_range_test, in_range_from_test}
+use Rattle.sc_line.proofs.LineLaws.{lacking, lacks-append, lacks-spelling_but, number_of_is, fields-spaced, lacks-spelling, number_of-spelling, same_bytes, named_is, line_from_fields, IsFromTo, in_range_test, in_range_from_test}
+use Rattle.sc_line.proofs.NumberLaws.{IsLineOf, kind_from, between-natural, natural_from, InRanges, named_from, named_inverse, numbers_inverse}
 use Rattle.sc_text.proofs.CoprimeLaws.{coprime_test, coprime_from_test}
-use Rattle.sc_text.proofs.WordLaws.{word_again}
-use Rattle.sc_text.proofs.SurfaceLaws.{fields-word_line, fields-side_line, count_in-count_line, good_count, good_side, good_word}
-use Rattle.sc_text.proofs.Readable.{InRanges, named_from, named_inverse, numbers_inverse, count_inverse, side_inverse, word_inverse}
+use Rattle.sc_text.proofs.WordLaws.{lacks-spelled, word_again, word_fault_none, nonempty_word, spelled_back, reduced_from}
 use Rattle.sc_text.proofs.EntryLaws.{entry_fields_lack, fields_are_entries, entries_of_fields, entries_in_range, entries_from_tests}
 
--- a line is that of a value in range
-pub record IsLineOf {A : Type 0} (line_for : A → Line) (InRange : A → Type 0) (line : Line) : Type 0 where
-  pub told : A
-  pub is : line ≡ line_for told
-  pub in_range : InRange told
+-- ---- words and sides
 
--- a kind by its good lines: each tells its value, and each line without a fault is one of them
-pub kind_from : {A : Type 0} (fault : Line → Option Kind) (value : Line → A) (line_for : A → Line) (InRange : A → Type 0)
-    → ((x : A) → InRange x → fault (line_for x) ≡ None)
-    → ((x : A) → InRange x → value (line_for x) ≡ x)
-    → ((line : Line) → fault line ≡ None → IsLineOf line_for InRange line)
-    → IsLineKind fault value line_for InRange
-kind_from fault value line_for InRange good value_is inverse =
-    let tells = λ (line : Line) (h : fault line ≡ None). ap value (inverse line h).is ∙ value_is (inverse line h).told (inverse line h).in_range in record {
-      good = good;
-      value_is = value_is;
-      in_range = λ line h. subst InRange (sym (tells line h)) (inverse line h).in_range;
-      line_is = λ line h. (inverse line h).is ∙ ap line_for (sym (tells line h));
+pub fields-word_line : (w : ℕ × Word) → fields (word_line w) ≡ codes "word" ∷ spelling (pos w.0) ∷ spelled w.1 ∷ []
+fields-word_line w =
+    fields-spaced (codes "word") (spelling (pos w.0) ∷ spelled w.1 ∷ []) (refl, (lacks-spelling 32 (pos w.0) (omega arith), (lacks-spelled 32 w.1 (omega arith), tt)))
+
+pub fields-side_line : (s : Side) → fields (side_line s) ≡ codes "side" ∷ spelling (pos s.label) ∷ spelling (pos s.mate) ∷ spelling (pos s.next) ∷ []
+fields-side_line s =
+    fields-spaced (codes "side") (spelling (pos s.label) ∷ spelling (pos s.mate) ∷ spelling (pos s.next) ∷ [])
+    (refl, (lacks-spelling 32 (pos s.label) (omega arith), (lacks-spelling 32 (pos s.mate) (omega arith), (lacks-spelling 32 (pos s.next) (omega arith), tt))))
+
+pub good_side : (s : Side) → IsSideInRange s → numbers_line_fault (codes "side") (between 0 MAX_LABEL ∷ between 0 MAX_SIDE ∷ between 0 MAX_SIDE ∷ []) (side_line s) ≡ None
+good_side s h =
+    named_is (codes "side") (numbers_fault (between 0 MAX_LABEL ∷ between 0 MAX_SIDE ∷ between 0 MAX_SIDE ∷ [])) (side_line s) _ (fields-side_line s)
+    ∙ rw (number_of-spelling (pos s.label), number_of-spelling (pos s.mate), number_of-spelling (pos s.next), between-natural 0 MAX_LABEL s.label (omega arith) h.label, between-natural 0 MAX_SIDE s.mate (omega arith) h.mate, between-natural 0 MAX_SIDE s.next (omega arith) h.next) refl
+
+pub good_word : (room : ℕ) (w : ℕ × Word) → IsWordInRange w → length w.1 ≤ room → named_fault (codes "word") (word_fields_fault room) (word_line w) ≡ None
+good_word room w h fits =
+    named_is (codes "word") (word_fields_fault room) (word_line w) _ (fields-word_line w)
+    ∙ rw (number_of-spelling (pos w.0), word_again w.1 h.letters) (nonempty_word room (pos w.0) w.1 h.some ∙ word_fault_none room w.0 w.1 h.low h.high fits h.reduced)
+
+pub record IsSideLine (line : Line) : Type 0 where
+  pub side : Side
+  pub is : line ≡ side_line side
+  pub in_range : IsSideInRange side
+
+side_from : (line : Line) (zs : List ℤ) → fields line ≡ codes "side" ∷ map spelling zs → InRanges (between 0 MAX_LABEL ∷ between 0 MAX_SIDE ∷ between 0 MAX_SIDE ∷ []) zs → IsSideLine line
+side_from line [] e h = absurd h
+side_from line (a ∷ []) e h = absurd h.1
+side_from line (a ∷ b ∷ []) e h = absurd h.1.1
+side_from line (a ∷ b ∷ c ∷ []) e h =
+    let label = natural_from 0 MAX_LABEL a h.0 in
+    let mate = natural_from 0 MAX_SIDE b h.1.0 in
+    let next = natural_from 0 MAX_SIDE c h.1.1.0 in
+    record {
+      side = record { label = label.natural; mate = mate.natural; next = next.natural };
+      is = line_from_fields line _ e ∙ (λ i. spaced (codes "side" ∷ spelling (label.is i) ∷ spelling (mate.is i) ∷ spelling (next.is i) ∷ []));
+      in_range = record { label = label.high_end; mate = mate.high_end; next = next.high_end };
     }
+side_from line (a ∷ b ∷ c ∷ d ∷ zs) e h = absurd h.1.1.1
 
--- ---- counts, words, sides
+pub side_inverse : (line : Line) → side_row line ≡ None → IsSideLine line
+side_inverse line h =
+    let rs : List NumberRange = between 0 MAX_LABEL ∷ between 0 MAX_SIDE ∷ between 0 MAX_SIDE ∷ [] in
+    let named = named_inverse (codes "side") (numbers_fault rs) line h in
+    let numbers = numbers_inverse rs named.rest named.good in
+    side_from line numbers.numbers (named.fields ∙ ap (λ (fs : List Field). codes "side" ∷ fs) numbers.fields) numbers.in_range
 
-pub count_kind : (name : List ℕ) (low high : ℕ) → lacks 32 name ≡ true → IsLineKind (numbers_line_fault name (between low high ∷ [])) count_in (count_line name) (IsCountInRange low high)
-count_kind name low high h =
-    kind_from _ count_in (count_line name) (IsCountInRange low high)
-    (λ n in_range. good_count name low high n h in_range.low_end in_range.high_end)
-    (λ n in_range. count_in-count_line name n h)
-    (λ line good. let c = count_inverse name low high line good in record {
-      told = c.count;
-      is = c.is;
-      in_range = record { low_end = c.low_end; high_end = c.high_end };
-    })
+pub record IsWordLine (room : ℕ) (line : Line) : Type 0 where
+  pub word : ℕ × Word
+  pub is : line ≡ word_line word
+  pub in_range : IsWordInRange word
+  pub fits : length word.1 ≤ room
+
+word_good : (room : ℕ) (z : ℤ) (x : _) (w : Word) (line : Line) (letters : Field) → fields line ≡ codes "word" ∷ spelling z ∷ letters ∷ [] → word_of letters ≡ Some (x ∷ w) → word_fault room z (x ∷ w) ≡ None → IsWordLine room line
+word_good room z x w line letters e read h =
+    elim (cases_Bool (between 1 MAX_WEIGHT z && leb (length (x ∷ w)) room)) [
+      | inl in_range ↦
+          let both = and_parts (between 1 MAX_WEIGHT z) (leb (length (x ∷ w)) room) in_range in
+          let weight = natural_from 1 MAX_WEIGHT z both.0 in
+          let spells = spelled_back letters (x ∷ w) read in
+          elim (cases_Bool (is_reduced (x ∷ w))) [
+            | inl reduced ↦ record {
+              word = (weight.natural, x ∷ w);
+              is = line_from_fields line _ e ∙ (λ i. spaced (codes "word" ∷ spelling (weight.is i) ∷ sym spells.bytes i ∷ []));
+              in_range = record { low = weight.low_end; high = weight.high_end; letters = spells.letters; some = (λ none. absurd cc); reduced = reduced_from (x ∷ w) reduced };
+              fits = leb-true (length (x ∷ w)) room both.1;
+            }
+            | inr unreduced ↦ absurd (none-some NotReduced (sym (let fault : Some NotReduced ≡ None = rw (in_range, unreduced) at h in fault)))
+          ]
+      | inr outside ↦ absurd (none-some Range (sym (let fault : Some Range ≡ None = rw outside at h in fault)))
+    ]
+
+word_from : (room : ℕ) (weight : Option ℤ) (word : Option Word) (line : Line) (f letters : Field) → fields line ≡ codes "word" ∷ f ∷ letters ∷ [] → number_of f ≡ weight → word_of letters ≡ word → weighted_word_fault room weight word ≡ None → IsWordLine room line
+word_from room None word line f letters e n w h = absurd (none-some Form (sym h))
+word_from room (Some z) None line f letters e n w h = absurd (none-some Form (sym h))
+word_from room (Some z) (Some []) line f letters e n w h = absurd (none-some Form (sym h))
+word_from room (Some z) (Some (x ∷ v)) line f letters e n w h =
+    word_good room z x v line letters (e ∙ ap (λ (g : Field). codes "word" ∷ g ∷ letters ∷ []) (number_of_is f z n)) w h
+
+word_of_fields : (room : ℕ) (line : Line) (fs : List Field) → fields line ≡ codes "word" ∷ fs → word_fields_fault room fs ≡ None → IsWordLine room line
+word_of_fields room line [] e h = absurd (none-some Form (sym h))
+word_of_fields room line (f ∷ []) e h = absurd (none-some Form (sym h))
+word_of_fields room line (f ∷ letters ∷ []) e h = word_from room (number_of f) (word_of letters) line f letters e refl refl h
+word_of_fields room line (f ∷ letters ∷ g ∷ fs) e h = absurd (none-some Form (sym h))
+
+pub word_inverse : (room : ℕ) (line : Line) → word_row room line ≡ None → IsWordLine room line
+word_inverse room line h =
+    let named = named_inverse (codes "word") (word_fields_fault room) line h in
+    word_of_fields room line named.rest named.fields named.good
 
 word_in-word_line : (w : ℕ × Word) → IsWordInRange w → word_in (word_line w) ≡ w
 word_in-word_line w h = rw (fields-word_line w, number_of-spelling (pos w.0), word_again w.1 h.letters) refl

@@ -1,12 +1,9 @@
-pub mod LineLaws
 pub mod WordLaws
-pub mod SurfaceLaws
-pub mod FaultLaws
-pub mod PrintLaws
-pub mod Faultless
-pub mod Readable
-pub mod OneText
 pub mod CoprimeLaws
 pub mod ValueLaws
 pub mod EntryLaws
 pub mod KindLaws
+pub mod FeedLaws
+pub mod SurfaceLaws
+pub mod PieceLaws
+pub mod ReadChains

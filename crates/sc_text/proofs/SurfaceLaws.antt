@@ -1,254 +1,206 @@
--- The table of a surface text at the lines that were read, and the lines that have no fault.
-use Rattle.std.proofs.Common.{◌≡◌, ℕ, ◌+◌, ◌-◌, ◌<◌, ◌≤◌, true, false, cond, eqb, ltb, List, [], ◌∷◌, ◌++◌, map, length, get_or, drop, Option, Some, None, is_some, codes, pos, refl, sym, ap, subst, ◌∙◌, append_assoc, arith, inl, inr}
-use Rattle.std.specs.List.{sum_by}
-use Rattle.std.proofs.lemmas.Bool.{le-ltb, lt-ltb, cases_lt}
-use Rattle.std.proofs.lemmas.List.Sums.{sum_by-cons}
-use Rattle.std.proofs.lemmas.List.{length-map, length-append, get_or_at}
-use Rattle.sc_whole.specs.Spelling.{spelling}
+-- The form of surface texts is lawful: which surfaces they tell.
+use Rattle.std.proofs.Common.{◌≡◌, ℕ, suc, ◌+◌, ◌-◌, ◌≤◌, Bool, false, List, [], ◌∷◌, ◌++◌, map, length, Option, None, codes, pos, refl, sym, ap, subst, ◌∙◌, arith, Result, ◌⊎◌}
+use Rattle.std.specs.List.{AllByRecursion, sum_by}
+use Rattle.std.specs.Prelude.{IfOk, IfErr, OnOk, IsErrAnd}
+use Rattle.std.proofs.lemmas.Result.{IfOk-weaker}
+use Rattle.std.proofs.lemmas.List.Sums.{sum_by-append}
 use Rattle.sc_theory.specs.declared.Side.{Side}
 use Rattle.sc_theory.specs.Words.{Word}
 use Rattle.sc_theory.specs.Chains.{Chain, positions}
 use Rattle.sc_theory.specs.Fatgraphs.{Sides}
-use Rattle.sc_chain.specs.declared.fault.Kind.{Kind}
-use Rattle.sc_chain.specs.declared.fault.Kind.TheVariants.{Ended, Rest}
+use Rattle.sc_theory.proofs.ChainLaws.{positions-cons}
+use Rattle.sc_line.specs.Lines.{Line, count_line, text_of}
+use Rattle.sc_line.specs.declared.fault.Kind.{Kind}
+use Rattle.sc_line.specs.declared.fault.TextFault.TheVariants as text_faults
+use Rattle.sc_line.specs.Faults.{IsFaultless, IsFaultOf, IsFirstFault}
+use Rattle.sc_line.specs.Formats.{IsShort, IsCountInRange, plan_of}
+use Rattle.sc_line.specs.Forms.{Both, Form, LineKind, IsLawful, IsToldBy, count_kind, lines_after}
+use Rattle.sc_line.proofs.NumberLaws.{count_is_kind}
+use Rattle.sc_line.proofs.FormatLaws.{short_more}
+use Rattle.sc_line.proofs.FormLaws.{AllAfter, AreKinds, AreCounted, AreMany, InBoth, all_after, all_of, lines_map, lawful_both, lawful_one, lawful_counted, lawful_literal, lawful_many, lawful_where}
+use Rattle.sc_line.proofs.TextLaws as texts
 use Rattle.sc_chain.specs.declared.limits.TheConstants.{MAX_WORDS, MAX_POSITIONS}
-use Rattle.sc_text.specs.declared.limits.TheConstants.{MAX_COPIES, MAX_SIDES, MAX_LABEL, MAX_SIDE}
-use Rattle.sc_text.specs.Lines.{Line, fields}
-use Rattle.sc_text.specs.Words.{word_line, spelled, IsWordInRange}
-use Rattle.sc_text.specs.Sides.{side_line, IsSideInRange}
-use Rattle.sc_text.specs.Faults.{Plan, row_at, due_after, line_fault, part_fault, between, literal_fault, numbers_fault, numbers_line_fault, named_fault, word_fields_fault}
-use Rattle.sc_text.specs.Surfaces.{heading, ending, count_line, word_row, side_row, table_of, surface_table, count_in, letters_in}
-use Rattle.sc_text.specs.declared.surface.Stage.{Stage}
-use Rattle.sc_text.specs.declared.surface.Stage.TheVariants as stages
-use Rattle.sc_text.specs.Readers.{words_so_far, sides_so_far, lines_at, IsReadingAt}
-use Rattle.sc_text.proofs.LineLaws.{lacks, fields-spaced, lacks-spelling, number_of-spelling, same_bytes, named_is}
-use Rattle.sc_text.proofs.WordLaws.{lacks-spelled, word_again, between-natural, word_fault_none, nonempty_word}
+use Rattle.sc_text.specs.declared.limits.Limits.{Limits}
+use Rattle.sc_text.specs.declared.limits.TheConstants.{VERSION_1, MAX_COPIES, MAX_SIDES}
+use Rattle.sc_text.specs.Words.{word_line, IsWordInRange, FitsIn, a_word}
+use Rattle.sc_text.specs.Sides.{side_line, IsSideInRange, a_side}
+use Rattle.sc_text.specs.Parts.{words_form, copies_form, sides_form}
+use Rattle.sc_text.specs.Printing.{words_lines, sides_lines}
+use Rattle.sc_text.specs.Surfaces.{heading, ending, from_sides, from_copies, from_words, Said, surface_form, uncounted, surface_due, said, surface_lines, surface_text, surface_table, IsChainInRange, IsSurfaceInRange}
+use Rattle.sc_text.specs.SurfaceRead.{said_by, IsSaid, IsSurfaceRead}
+use Rattle.sc_text.specs.declared.surface.Surface.{Surface}
+use Rattle.sc_line.specs.declared.fault.TextFault.{TextFault}
+use Rattle.sc_text.proofs.KindLaws.{word_kind, side_kind}
+use Rattle.sc_text.proofs.FeedLaws.{lacks-numbers_line, lacks-word_line, lacks-side_line}
 
--- ---- the fields of lines
+pub positions-push : (c : Chain) (w : ℕ × Word) → positions (c ++ w ∷ []) ≡ positions c + length w.1
+positions-push c w = omega (arith, sum_by-append (λ (v : ℕ × Word). length v.1) c (w ∷ []), positions-cons w [])
 
-pub fields-count_line : (name : List ℕ) (n : ℕ) → lacks 32 name ≡ true → fields (count_line name n) ≡ name ∷ spelling (pos n) ∷ []
-fields-count_line name n h = fields-spaced name (spelling (pos n) ∷ []) (h, (lacks-spelling 32 (pos n) (omega arith), tt))
+-- ---- words
 
-pub fields-word_line : (w : ℕ × Word) → fields (word_line w) ≡ codes "word" ∷ spelling (pos w.0) ∷ spelled w.1 ∷ []
-fields-word_line w =
-    fields-spaced (codes "word") (spelling (pos w.0) ∷ spelled w.1 ∷ []) (refl, (lacks-spelling 32 (pos w.0) (omega arith), (lacks-spelled 32 w.1 (omega arith), tt)))
+abbrev pub word_kinds : ℕ → Chain → LineKind (ℕ × Word)
+word_kinds most c = a_word (most - positions c)
 
-pub fields-side_line : (s : Side) → fields (side_line s) ≡ codes "side" ∷ spelling (pos s.label) ∷ spelling (pos s.mate) ∷ spelling (pos s.next) ∷ []
-fields-side_line s =
-    fields-spaced (codes "side") (spelling (pos s.label) ∷ spelling (pos s.mate) ∷ spelling (pos s.next) ∷ [])
-    (refl, (lacks-spelling 32 (pos s.label) (omega arith), (lacks-spelling 32 (pos s.mate) (omega arith), (lacks-spelling 32 (pos s.next) (omega arith), tt))))
+-- what a chain may be that has so many words and letters at most
+pub record IsChainFor (words most : ℕ) (c : Chain) : Type 0 where
+  pub count : length c ≤ words
+  pub words_in : AllByRecursion IsWordInRange c
+  pub letters : positions c ≤ most
 
-pub count_in-count_line : (name : List ℕ) (n : ℕ) → lacks 32 name ≡ true → count_in (count_line name n) ≡ n
-count_in-count_line name n h = rw (fields-count_line name n h, number_of-spelling (pos n)) refl
+words_after : (most : ℕ) (before c : Chain) → AllByRecursion IsWordInRange c → positions before + positions c ≤ most → AllAfter (λ b. FitsIn (most - positions b)) before c
+words_after most before [] h few = tt
+words_after most before (w ∷ c) h few =
+    let first : positions (w ∷ c) ≡ length w.1 + positions c = positions-cons w c in
+    let more : positions (before ++ w ∷ []) ≡ positions before + length w.1 = positions-push before w in
+    (record { in_range = h.0; fits = omega arith }, words_after most (before ++ w ∷ []) c h.1 (omega arith))
 
-letters_in-word_line : (w : ℕ × Word) → letters_in (word_line w) ≡ length w.1
-letters_in-word_line w = rw (fields-word_line w) (length-map w.1 _)
+record AreWords (most : ℕ) (before c : Chain) : Type 0 where
+  words : AllByRecursion IsWordInRange c
+  few : positions before + positions c ≤ most
 
--- ---- lines without a fault
+words_of : (most : ℕ) (before c : Chain) → AllAfter (λ b. FitsIn (most - positions b)) before c → positions before ≤ most → AreWords most before c
+words_of most before [] h few = record { words = tt; few = omega arith }
+words_of most before (w ∷ c) h few =
+    let fits : length w.1 ≤ most - positions before = h.0.fits in
+    let first : positions (w ∷ c) ≡ length w.1 + positions c = positions-cons w c in
+    let more : positions (before ++ w ∷ []) ≡ positions before + length w.1 = positions-push before w in
+    let rest = words_of most (before ++ w ∷ []) c h.1 (omega arith) in
+    let below = rest.few in
+    record { words = (h.0.in_range, rest.words); few = omega arith }
 
-pub good_literal : (due : Line) → literal_fault due due ≡ None
-good_literal due = rw (same_bytes due) refl
+pub lawful_words : (m : Limits) → IsLawful (words_form m).lines ((words_form m).due uncounted) (IsChainFor m.words m.positions) (suc m.words)
+lawful_words m =
+    lawful_where (words_form m).lines ((words_form m).due uncounted) (AreCounted (word_kinds m.positions) (λ b. FitsIn (m.positions - positions b)) (λ b. word_kind (m.positions - positions b)) (λ b. lacks-word_line) m.words) (IsChainFor m.words m.positions) (suc m.words)
+    (lawful_counted (word_kinds m.positions) (λ b. FitsIn (m.positions - positions b)) (λ b. word_kind (m.positions - positions b)) (λ b. lacks-word_line) (codes "words") m.words refl (λ n. lacks-numbers_line (codes "words") (pos n ∷ []) refl))
+    (λ c h. let words = words_of m.positions [] c h.in_range (omega arith) in let few = words.few in record { count = h.few; words_in = words.words; letters = omega arith })
+    (λ c h. record { few = h.count; in_range = words_after m.positions [] c h.words_in (omega (arith, h.letters)) })
 
-pub good_count : (name : List ℕ) (low high n : ℕ) → lacks 32 name ≡ true → low ≤ n → n ≤ high → numbers_line_fault name (between low high ∷ []) (count_line name n) ≡ None
-good_count name low high n h small large =
-    named_is name (numbers_fault (between low high ∷ [])) (count_line name n) _ (fields-count_line name n h)
-    ∙ rw (number_of-spelling (pos n), between-natural low high n small large) refl
+-- ---- copies and sides
 
-pub good_side : (s : Side) → IsSideInRange s → numbers_line_fault (codes "side") (between 0 MAX_LABEL ∷ between 0 MAX_SIDE ∷ between 0 MAX_SIDE ∷ []) (side_line s) ≡ None
-good_side s h =
-    named_is (codes "side") (numbers_fault (between 0 MAX_LABEL ∷ between 0 MAX_SIDE ∷ between 0 MAX_SIDE ∷ [])) (side_line s) _ (fields-side_line s)
-    ∙ rw (number_of-spelling (pos s.label), number_of-spelling (pos s.mate), number_of-spelling (pos s.next), between-natural 0 MAX_LABEL s.label (omega arith) h.label, between-natural 0 MAX_SIDE s.mate (omega arith) h.mate, between-natural 0 MAX_SIDE s.next (omega arith) h.next) refl
+pub lawful_copies : (m : Limits) → IsLawful (copies_form m).lines ((copies_form m).due None) (IsCountInRange 1 m.copies) 1
+lawful_copies m =
+    lawful_one (count_kind (codes "copies") 1 m.copies) (IsCountInRange 1 m.copies) (count_is_kind (codes "copies") 1 m.copies refl) (λ n. lacks-numbers_line (codes "copies") (pos n ∷ []) refl)
 
-pub good_word : (room : ℕ) (w : ℕ × Word) → IsWordInRange w → length w.1 ≤ room → named_fault (codes "word") (word_fields_fault room) (word_line w) ≡ None
-good_word room w h fits =
-    named_is (codes "word") (word_fields_fault room) (word_line w) _ (fields-word_line w)
-    ∙ rw (number_of-spelling (pos w.0), word_again w.1 h.letters) (nonempty_word room (pos w.0) w.1 h.some ∙ word_fault_none room w.0 w.1 h.low h.high fits h.reduced)
+-- what sides may be of which there are so many at most
+pub record AreSidesFor (most : ℕ) (g : Sides) : Type 0 where
+  pub count : length g ≤ most
+  pub sides : AllByRecursion IsSideInRange g
 
--- ---- the rows of the table
+pub lawful_sides : (m : Limits) → IsLawful (sides_form m).lines ((sides_form m).due uncounted) (AreSidesFor m.sides) (suc m.sides)
+lawful_sides m =
+    lawful_where (sides_form m).lines ((sides_form m).due uncounted) (AreCounted (λ (g : Sides). a_side) (λ b. IsSideInRange) (λ b. side_kind) (λ b. lacks-side_line) m.sides) (AreSidesFor m.sides) (suc m.sides)
+    (lawful_counted (λ (g : Sides). a_side) (λ b. IsSideInRange) (λ b. side_kind) (λ b. lacks-side_line) (codes "sides") m.sides refl (λ n. lacks-numbers_line (codes "sides") (pos n ∷ []) refl))
+    (λ g h. record { count = h.few; sides = all_of IsSideInRange [] g h.in_range })
+    (λ g h. record { few = h.count; in_range = all_after IsSideInRange [] g h.sides })
 
-at_words : (words room sides i : ℕ) → 2 ≤ i → i < 2 + words → row_at (table_of words room sides) i ≡ Some (word_row room)
-at_words words room sides i low high =
-    let no1 : ltb i 1 ≡ false = le-ltb i 1 (omega arith) in
-    let no2 : ltb (i - 1) 1 ≡ false = le-ltb (i - 1) 1 (omega arith) in
-    let is3 : ltb (i - 1 - 1) words ≡ true = lt-ltb (i - 1 - 1) words (omega arith) in
-    rw (no1, no2, is3) refl
+-- ---- the whole text
 
-at_copies : (words room sides i : ℕ) → i ≡ 2 + words → row_at (table_of words room sides) i ≡ Some (numbers_line_fault (codes "copies") (between 1 MAX_COPIES ∷ []))
-at_copies words room sides i at =
-    let no1 : ltb i 1 ≡ false = le-ltb i 1 (omega arith) in
-    let no2 : ltb (i - 1) 1 ≡ false = le-ltb (i - 1) 1 (omega arith) in
-    let no3 : ltb (i - 1 - 1) words ≡ false = le-ltb (i - 1 - 1) words (omega arith) in
-    let is4 : ltb (i - 1 - 1 - words) 1 ≡ true = lt-ltb (i - 1 - 1 - words) 1 (omega arith) in
-    rw (no1, no2, no3, is4) refl
+-- what a surface may be
+abbrev pub IsSaidFor : Limits → Said → Type 0
+IsSaidFor m v =
+    Unit {0} × (IsChainFor m.words m.positions v.second.first × (IsCountInRange 1 m.copies v.second.second.first × (AreSidesFor m.sides v.second.second.second.first × Unit {0})))
 
-at_side_count : (words room sides i : ℕ) → i ≡ 3 + words → row_at (table_of words room sides) i ≡ Some (numbers_line_fault (codes "sides") (between 0 MAX_SIDES ∷ []))
-at_side_count words room sides i at =
-    let no1 : ltb i 1 ≡ false = le-ltb i 1 (omega arith) in
-    let no2 : ltb (i - 1) 1 ≡ false = le-ltb (i - 1) 1 (omega arith) in
-    let no3 : ltb (i - 1 - 1) words ≡ false = le-ltb (i - 1 - 1) words (omega arith) in
-    let no4 : ltb (i - 1 - 1 - words) 1 ≡ false = le-ltb (i - 1 - 1 - words) 1 (omega arith) in
-    let is5 : ltb (i - 1 - 1 - words - 1) 1 ≡ true = lt-ltb (i - 1 - 1 - words - 1) 1 (omega arith) in
-    rw (no1, no2, no3, no4, is5) refl
+pub lawful_surface : (m : Limits) → IsLawful (surface_form m).lines (surface_due m) (IsSaidFor m) (1 + (suc m.words + (1 + (suc m.sides + 1))))
+lawful_surface m =
+    lawful_both _ _ _ _ (λ u. (from_words m).lines) _ _ _ (lawful_literal heading refl) (λ u h.
+    lawful_both _ _ _ _ (λ c. (from_copies m).lines) _ _ _ (lawful_words m) (λ c h.
+    lawful_both _ _ _ _ (λ n. (from_sides m).lines) _ _ _ (lawful_copies m) (λ n h.
+    lawful_both _ _ _ _ (λ g u. ending ∷ []) _ _ _ (lawful_sides m) (λ g h. lawful_literal ending refl))))
 
-at_side : (words room sides i : ℕ) → 4 + words ≤ i → i < 4 + words + sides → row_at (table_of words room sides) i ≡ Some side_row
-at_side words room sides i low high =
-    let no1 : ltb i 1 ≡ false = le-ltb i 1 (omega arith) in
-    let no2 : ltb (i - 1) 1 ≡ false = le-ltb (i - 1) 1 (omega arith) in
-    let no3 : ltb (i - 1 - 1) words ≡ false = le-ltb (i - 1 - 1) words (omega arith) in
-    let no4 : ltb (i - 1 - 1 - words) 1 ≡ false = le-ltb (i - 1 - 1 - words) 1 (omega arith) in
-    let no5 : ltb (i - 1 - 1 - words - 1) 1 ≡ false = le-ltb (i - 1 - 1 - words - 1) 1 (omega arith) in
-    let is6 : ltb (i - 1 - 1 - words - 1 - 1) sides ≡ true = lt-ltb (i - 1 - 1 - words - 1 - 1) sides (omega arith) in
-    rw (no1, no2, no3, no4, no5, is6) refl
+-- ---- at the limits of version 1
 
-at_end : (words room sides i : ℕ) → i ≡ 4 + words + sides → row_at (table_of words room sides) i ≡ Some (literal_fault ending)
-at_end words room sides i at =
-    let no1 : ltb i 1 ≡ false = le-ltb i 1 (omega arith) in
-    let no2 : ltb (i - 1) 1 ≡ false = le-ltb (i - 1) 1 (omega arith) in
-    let no3 : ltb (i - 1 - 1) words ≡ false = le-ltb (i - 1 - 1) words (omega arith) in
-    let no4 : ltb (i - 1 - 1 - words) 1 ≡ false = le-ltb (i - 1 - 1 - words) 1 (omega arith) in
-    let no5 : ltb (i - 1 - 1 - words - 1) 1 ≡ false = le-ltb (i - 1 - 1 - words - 1) 1 (omega arith) in
-    let no6 : ltb (i - 1 - 1 - words - 1 - 1) sides ≡ false = le-ltb (i - 1 - 1 - words - 1 - 1) sides (omega arith) in
-    let is7 : ltb (i - 1 - 1 - words - 1 - 1 - sides) 1 ≡ true = lt-ltb (i - 1 - 1 - words - 1 - 1 - sides) 1 (omega arith) in
-    rw (no1, no2, no3, no4, no5, no6, is7) refl
+said_in_range : (v : Said) → IsSaidFor VERSION_1 v → IsSurfaceInRange v.second.first v.second.second.first v.second.second.second.first
+said_in_range v h = record {
+  chain = record { count = h.1.0.count; words = h.1.0.words_in; letters = h.1.0.letters };
+  low = h.1.1.0.low_end;
+  high = h.1.1.0.high_end;
+  count = h.1.1.1.0.count;
+  sides = h.1.1.1.0.sides;
+}
 
-past_end : (words room sides i : ℕ) → 5 + words + sides ≤ i → row_at (table_of words room sides) i ≡ None
-past_end words room sides i past =
-    let no1 : ltb i 1 ≡ false = le-ltb i 1 (omega arith) in
-    let no2 : ltb (i - 1) 1 ≡ false = le-ltb (i - 1) 1 (omega arith) in
-    let no3 : ltb (i - 1 - 1) words ≡ false = le-ltb (i - 1 - 1) words (omega arith) in
-    let no4 : ltb (i - 1 - 1 - words) 1 ≡ false = le-ltb (i - 1 - 1 - words) 1 (omega arith) in
-    let no5 : ltb (i - 1 - 1 - words - 1) 1 ≡ false = le-ltb (i - 1 - 1 - words - 1) 1 (omega arith) in
-    let no6 : ltb (i - 1 - 1 - words - 1 - 1) sides ≡ false = le-ltb (i - 1 - 1 - words - 1 - 1) sides (omega arith) in
-    let no7 : ltb (i - 1 - 1 - words - 1 - 1 - sides) 1 ≡ false = le-ltb (i - 1 - 1 - words - 1 - 1 - sides) 1 (omega arith) in
-    rw (no1, no2, no3, no4, no5, no6, no7) refl
+in_range_said : (v : Said) → IsSurfaceInRange v.second.first v.second.second.first v.second.second.second.first → IsSaidFor VERSION_1 v
+in_range_said v h = (
+  tt,
+  (record { count = h.chain.count; words_in = h.chain.words; letters = h.chain.letters }, (record { low_end = h.low; high_end = h.high }, (record { count = h.count; sides = h.sides }, tt))),
+)
 
--- ---- the counts that the lines tell
+abbrev pub all_lines : ℕ
+all_lines = 1 + (suc MAX_WORDS + (1 + (suc MAX_SIDES + 1)))
 
-words_told : (k : ℕ) → count_in (count_line (codes "words") k) ≡ k
-words_told k = count_in-count_line (codes "words") k refl
+pub lawful_version_1 : IsLawful (surface_form VERSION_1).lines (surface_due VERSION_1) IsSaid all_lines
+lawful_version_1 = lawful_where (surface_form VERSION_1).lines (surface_due VERSION_1) (IsSaidFor VERSION_1) IsSaid all_lines (lawful_surface VERSION_1) said_in_range in_range_said
 
-length-words_so_far : (k : ℕ) (c : Chain) → length (words_so_far k c) ≡ length c + 1
-length-words_so_far k c = omega (arith, length-map c word_line)
+pub short_surface : IsShort 4000000000 (surface_due VERSION_1)
+short_surface = short_more all_lines 4000000000 (surface_due VERSION_1) (omega arith) lawful_version_1.short
 
-sides_told : (k : ℕ) (c : Chain) (n m i : ℕ) (more : List Line) → i ≡ 3 + length c → count_in (get_or (heading ∷ (words_so_far k c ++ (count_line (codes "copies") n ∷ count_line (codes "sides") m ∷ more))) i []) ≡ m
-sides_told k c n m i more at =
-    let front : List Line = heading ∷ (words_so_far k c ++ count_line (codes "copies") n ∷ []) in
-    let len : length front ≡ i = omega (arith, length-append (words_so_far k c) (count_line (codes "copies") n ∷ []), length-words_so_far k c) in
-    let regrouped : front ++ count_line (codes "sides") m ∷ more ≡ heading ∷ (words_so_far k c ++ (count_line (codes "copies") n ∷ count_line (codes "sides") m ∷ more)) =
-    ap (λ (ls : List Line). heading ∷ ls) (append_assoc (words_so_far k c) (count_line (codes "copies") n ∷ []) (count_line (codes "sides") m ∷ more)) in
-    ap count_in (subst (λ (ls : List Line). get_or ls i [] ≡ count_line (codes "sides") m) regrouped (get_or_at front (count_line (codes "sides") m) more [] i len))
-    ∙ count_in-count_line (codes "sides") m refl
+-- ---- the laws
 
-letters_told : (c : Chain) → sum_by letters_in (map word_line c) ≡ positions c
-letters_told [] = refl
-letters_told (w ∷ c) =
-    sum_by-cons letters_in (word_line w) (map word_line c)
-    ∙ ap (λ (n : ℕ). n + sum_by letters_in (map word_line c)) (letters_in-word_line w)
-    ∙ ap (λ (n : ℕ). length w.1 + n) (letters_told c)
-    ∙ sym (sum_by-cons (λ v. length v.1) w c)
-
--- ---- the row that is due after the lines that were read
-
-length-after_words : (k : ℕ) (c : Chain) (more : List Line) → length (words_so_far k c ++ more) ≡ length c + 1 + length more
-length-after_words k c more = omega (arith, length-append (words_so_far k c) more, length-words_so_far k c)
-
-pub start_due : due_after surface_table [] ≡ Some (literal_fault heading)
+pub faultless_text : (c : Chain) (n : ℕ) (g : Sides) → IsSurfaceInRange c n g → IsFaultless surface_table (surface_text c n g)
 unfolding surface_table
-start_due = refl
+faultless_text c n g h = texts.text_is_faultless (surface_form VERSION_1).lines (surface_due VERSION_1) IsSaid all_lines lawful_version_1 (said c n g) h
 
-pub headed_due : due_after surface_table (heading ∷ []) ≡ Some (numbers_line_fault (codes "words") (between 0 MAX_WORDS ∷ []))
+pub faultless_is_text : (text : List ℕ) → IsFaultless surface_table text → (c : Chain) × (n : ℕ) × (g : Sides) × IsSurfaceInRange c n g × (text ≡ surface_text c n g)
 unfolding surface_table
-headed_due = refl
+faultless_is_text text good =
+    let told = texts.faultless_is_text (surface_form VERSION_1).lines (surface_due VERSION_1) IsSaid all_lines lawful_version_1 text good in
+    (told.0.second.first, told.0.second.second.first, told.0.second.second.second.first, told.1, told.2)
 
-pub words_due : (k : ℕ) (c : Chain) → length c < k → due_after surface_table (heading ∷ words_so_far k c) ≡ Some (word_row (MAX_POSITIONS - positions c))
-unfolding surface_table
-words_due k c h =
-    let before : List Line = heading ∷ words_so_far k c in
-    let told = words_told k in
-    let len = length-words_so_far k c in
-    at_words (count_in (get_or before 1 [])) (MAX_POSITIONS - sum_by letters_in (drop 2 before)) (count_in (get_or before (3 + count_in (get_or before 1 [])) [])) (length before) (omega arith) (omega arith)
-    ∙ ap (λ (n : ℕ). Some (word_row (MAX_POSITIONS - n))) (letters_told c)
+pub record IsTextOfSurface (text : List ℕ) : Type 0 where
+  pub words : Chain
+  pub copies : ℕ
+  pub sides : Sides
+  pub in_range : IsSurfaceInRange words copies sides
+  pub is : text ≡ surface_text words copies sides
 
-pub copies_due : (k : ℕ) (c : Chain) → length c ≡ k → due_after surface_table (heading ∷ words_so_far k c) ≡ Some (numbers_line_fault (codes "copies") (between 1 MAX_COPIES ∷ []))
-unfolding surface_table
-copies_due k c h =
-    let before : List Line = heading ∷ words_so_far k c in
-    let told = words_told k in
-    let len = length-words_so_far k c in
-    at_copies (count_in (get_or before 1 [])) (MAX_POSITIONS - sum_by letters_in (drop 2 before)) (count_in (get_or before (3 + count_in (get_or before 1 [])) [])) (length before) (omega arith)
+pub readable_text : (text : List ℕ) → IsFaultless surface_table text → IsTextOfSurface text
+readable_text text good =
+    let told = faultless_is_text text good in
+    record { words = told.0; copies = told.1; sides = told.2; in_range = told.3; is = told.4 }
 
-pub side_count_due : (k : ℕ) (c : Chain) (n : ℕ) → length c ≡ k → due_after surface_table (heading ∷ (words_so_far k c ++ count_line (codes "copies") n ∷ [])) ≡ Some (numbers_line_fault (codes "sides") (between 0 MAX_SIDES ∷ []))
-unfolding surface_table
-side_count_due k c n h =
-    let before : List Line = heading ∷ (words_so_far k c ++ count_line (codes "copies") n ∷ []) in
-    let told = words_told k in
-    let len = length-after_words k c (count_line (codes "copies") n ∷ []) in
-    at_side_count (count_in (get_or before 1 [])) (MAX_POSITIONS - sum_by letters_in (drop 2 before)) (count_in (get_or before (3 + count_in (get_or before 1 [])) [])) (length before) (omega arith)
+pub record SameSurface (c : Chain) (n : ℕ) (g : Sides) (d : Chain) (m : ℕ) (h : Sides) : Type 0 where
+  pub words : c ≡ d
+  pub copies : n ≡ m
+  pub sides : g ≡ h
 
-pub side_due : (k : ℕ) (c : Chain) (n m : ℕ) (g : Sides) → length c ≡ k → length g < m → due_after surface_table (heading ∷ (words_so_far k c ++ sides_so_far n m g)) ≡ Some side_row
-unfolding surface_table
-side_due k c n m g h more =
-    let before : List Line = heading ∷ (words_so_far k c ++ sides_so_far n m g) in
-    let told = words_told k in
-    let sides = sides_told k c n m (3 + count_in (count_line (codes "words") k)) (map side_line g) (omega arith) in
-    let len = length-after_words k c (sides_so_far n m g) in
-    let side_lines = length-map g side_line in
-    at_side (count_in (get_or before 1 [])) (MAX_POSITIONS - sum_by letters_in (drop 2 before)) (count_in (get_or before (3 + count_in (get_or before 1 [])) [])) (length before) (omega arith) (omega arith)
+same_said : (v w : Said) → v ≡ w → SameSurface v.second.first v.second.second.first v.second.second.second.first w.second.first w.second.second.first w.second.second.second.first
+same_said v w e = record {
+  words = ap (λ (x : Said). x.second.first) e;
+  copies = ap (λ (x : Said). x.second.second.first) e;
+  sides = ap (λ (x : Said). x.second.second.second.first) e;
+}
 
-pub end_due : (k : ℕ) (c : Chain) (n m : ℕ) (g : Sides) → length c ≡ k → length g ≡ m → due_after surface_table (heading ∷ (words_so_far k c ++ sides_so_far n m g)) ≡ Some (literal_fault ending)
-unfolding surface_table
-end_due k c n m g h all =
-    let before : List Line = heading ∷ (words_so_far k c ++ sides_so_far n m g) in
-    let told = words_told k in
-    let sides = sides_told k c n m (3 + count_in (count_line (codes "words") k)) (map side_line g) (omega arith) in
-    let len = length-after_words k c (sides_so_far n m g) in
-    let side_lines = length-map g side_line in
-    at_end (count_in (get_or before 1 [])) (MAX_POSITIONS - sum_by letters_in (drop 2 before)) (count_in (get_or before (3 + count_in (get_or before 1 [])) [])) (length before) (omega arith)
+pub one_text : (c : Chain) (n : ℕ) (g : Sides) (d : Chain) (m : ℕ) (h : Sides) → IsSurfaceInRange c n g → IsSurfaceInRange d m h → surface_text c n g ≡ surface_text d m h → SameSurface c n g d m h
+one_text c n g d m h p q e = same_said (said c n g) (said d m h) (texts.text_is_of_one (surface_form VERSION_1).lines (surface_due VERSION_1) IsSaid all_lines lawful_version_1 (said c n g) (said d m h) p q e)
 
-pub nothing_due : (k : ℕ) (c : Chain) (n m : ℕ) (g : Sides) → length c ≡ k → length g ≡ m → due_after surface_table (heading ∷ (words_so_far k c ++ (sides_so_far n m g ++ ending ∷ []))) ≡ None
-unfolding surface_table
-nothing_due k c n m g h all =
-    let before : List Line = heading ∷ (words_so_far k c ++ (sides_so_far n m g ++ ending ∷ [])) in
-    let told = words_told k in
-    let sides = sides_told k c n m (3 + count_in (count_line (codes "words") k)) (map side_line g ++ ending ∷ []) (omega arith) in
-    let len = length-after_words k c (sides_so_far n m g ++ ending ∷ []) in
-    let rest = length-append (sides_so_far n m g) (ending ∷ []) in
-    let side_lines = length-map g side_line in
-    past_end (count_in (get_or before 1 [])) (MAX_POSITIONS - sum_by letters_in (drop 2 before)) (count_in (get_or before (3 + count_in (get_or before 1 [])) [])) (length before) (omega arith)
+-- the lines of a surface, spelled out
+pub same_lines : (c : Chain) (n : ℕ) (g : Sides) → surface_lines c n g ≡ heading ∷ (words_lines c ++ (count_line (codes "copies") n ∷ (sides_lines g ++ ending ∷ [])))
+same_lines c n g =
+    let words = lines_map (word_kinds VERSION_1.positions) word_line (λ b w. refl) [] c in
+    let sides = lines_map (λ (b : Sides). a_side) side_line (λ b s. refl) [] g in
+    λ i. heading ∷ ((count_line (codes "words") (length c) ∷ words i) ++ (count_line (codes "copies") n ∷ ((count_line (codes "sides") (length g) ∷ sides i) ++ ending ∷ [])))
 
--- ---- the fault of the next line
+-- ---- a surface that was read
 
-pub fault_when_due : (table : Plan) (before : List Line) (line : Line) (row : Line → Option Kind) → due_after table before ≡ Some row → line_fault table before line ≡ row line
-fault_when_due table before line row e = rw e refl
+pub surface_read : (bytes : List ℕ) (r : Result Surface TextFault) → IfOk r (λ s. IsToldBy (surface_due VERSION_1) bytes (said_by s)) → IfErr r (IsFaultOf (plan_of (surface_due VERSION_1)) bytes) → IsSurfaceRead bytes r
+surface_read bytes r = texts.text_of_read (surface_form VERSION_1).lines (surface_due VERSION_1) IsSaid all_lines lawful_version_1 bytes said_by r
 
-pub fault_when_done : (table : Plan) (before : List Line) (line : Line) → due_after table before ≡ None → line_fault table before line ≡ Some Rest
-fault_when_done table before line e = rw e refl
+module _ (bytes : List ℕ) (r : Result Surface TextFault) (read : IsSurfaceRead bytes r) where
+  pub is_faultless : OnOk r (IsFaultless surface_table bytes)
+  unfolding surface_table
+  is_faultless = texts.faultless (surface_form VERSION_1).lines (surface_due VERSION_1) IsSaid all_lines lawful_version_1 bytes said_by r read
 
--- the same of lines that are known by what they are
-pub row_fault : (before now : List Line) (line : Line) (row : Line → Option Kind) → before ≡ now → due_after surface_table before ≡ Some row → line_fault surface_table now line ≡ row line
-row_fault before now line row same due = fault_when_due surface_table now line row (sym (ap (due_after surface_table) same) ∙ due)
+  pub is_malformed : IfErr r (IsFaultOf surface_table bytes)
+  unfolding surface_table
+  is_malformed = read.malformed
 
--- ---- the stages of a reader
+  pub only_first : (line : ℕ) (kind : Kind) → IsFirstFault surface_table bytes line kind → IsErrAnd r (λ e. (e ≡ text_faults.Malformed line kind) ⊎ (e ≡ text_faults.Memory))
+  unfolding surface_table
+  only_first line kind first = texts.only (surface_form VERSION_1).lines (surface_due VERSION_1) IsSaid all_lines lawful_version_1 bytes said_by r read line kind first
 
--- a stage but the last tells which line is due
-pub due_at : (s : Stage) (k : ℕ) (c : Chain) (n m : ℕ) (g : Sides) → IsReadingAt s k c n m g → (s ≡ stages.Ended → ⊥) → is_some (due_after surface_table (lines_at s k c n m g)) ≡ true
-due_at stages.Start k c n m g h unended = rw start_due refl
-due_at stages.Headed k c n m g h unended = rw headed_due refl
-due_at stages.Words k c n m g h unended =
-    elim (cases_lt (length c) k) [
-      | inl more ↦ rw (words_due k c more) refl
-      | inr all ↦ let same : length c ≡ k = omega (arith, h.words_count) in rw (copies_due k c same) refl
-    ]
-due_at stages.Copied k c n m g h unended = rw (side_count_due k c n h.stage.0) refl
-due_at stages.Sides k c n m g h unended =
-    elim (cases_lt (length g) m) [
-      | inl more ↦ rw (side_due k c n m g h.stage.0 more) refl
-      | inr all ↦ let same : length g ≡ m = omega (arith, h.sides_count) in rw (end_due k c n m g h.stage.0 same) refl
-    ]
-due_at stages.Ended k c n m g h unended = absurd (unended refl)
+  pub is_same : (c : Chain) (n : ℕ) (g : Sides) → IsSurfaceInRange c n g → bytes ≡ surface_text c n g → IfOk r (λ s. (s.words.items ≡ c) × (s.copies ≡ n) × (s.sides.items ≡ g))
+  is_same c n g h e =
+      IfOk-weaker r _ _ (λ s same. let is = same_said (said_by s) (said c n g) same in (is.words, is.copies, is.sides))
+      (texts.reads_again (surface_form VERSION_1).lines (surface_due VERSION_1) IsSaid all_lines lawful_version_1 bytes said_by r read (said c n g) h e)
 
-pub ended_when_due : (table : Plan) (before : List Line) (rest : Line) → is_some (due_after table before) ≡ true → part_fault table before (rest ∷ []) ≡ Some Ended
-ended_when_due table before rest e = rw e refl
-
-pub rest_when_done : (table : Plan) (before : List Line) (rest : Line) → due_after table before ≡ None → part_fault table before (rest ∷ []) ≡ cond (eqb (length rest) 0) None (Some Rest)
-rest_when_done table before rest e = rw e refl
+  pub is_memory : (c : Chain) (n : ℕ) (g : Sides) → IsSurfaceInRange c n g → bytes ≡ surface_text c n g → IfErr r (λ e. e ≡ text_faults.Memory)
+  is_memory c n g h e = texts.memory (surface_form VERSION_1).lines (surface_due VERSION_1) IsSaid all_lines lawful_version_1 bytes said_by r read (said c n g) h e

@@ -19,11 +19,11 @@ use Rattle.sc_fraction.specs.Laws.{same_frac}
 use Rattle.sc_fraction.specs.Quotient.{quotient_text}
 use Rattle.sc_fraction.specs.Steps.{ForReduced}
 use Rattle.sc_fraction.specs.declared.frac.Frac.{Frac}
-use Rattle.sc_chain.specs.declared.fault.Kind.TheVariants.{Form, Range}
+use Rattle.sc_line.specs.declared.fault.Kind.TheVariants.{Form, Range}
 use Rattle.sc_text.specs.declared.limits.TheConstants.{MAX_VALUE}
-use Rattle.sc_text.specs.Lines.{Field, number_of}
+use Rattle.sc_line.specs.Lines.{Field, number_of}
 use Rattle.sc_text.specs.ValueLines.{quotient_of, halves, are_coprime, quotient_fault, fraction_fault, IsValueInRange}
-use Rattle.sc_text.proofs.LineLaws.{lacking, lacks-spelling_but, number_of_is}
+use Rattle.sc_line.proofs.LineLaws.{lacking, lacks-spelling_but, number_of_is}
 use Rattle.sc_text.proofs.CoprimeLaws.{coprime_from_test}
 
 -- ---- num/den in lowest terms

@@ -10,12 +10,13 @@ use Rattle.sc_theory.specs.declared.Letter.{Letter}
 use Rattle.sc_theory.specs.Words.{Word, IsReduced, delete_cyclically}
 use Rattle.sc_chain.specs.declared.limits.TheConstants.{GENERATORS}
 use Rattle.sc_text.specs.declared.limits.TheConstants.{MAX_WEIGHT}
-use Rattle.sc_chain.specs.declared.fault.Kind.TheVariants.{Form, Range, NotReduced}
-use Rattle.sc_text.specs.Lines.{Field}
+use Rattle.sc_line.specs.declared.fault.Kind.TheVariants.{Form, Range, NotReduced}
+use Rattle.sc_line.specs.Lines.{Field}
 use Rattle.sc_chain.specs.Spelling.{letter_byte, letter_of, with_first, word_of}
-use Rattle.sc_text.specs.Words.{spelled, is_reduced}
-use Rattle.sc_text.specs.Faults.{between, word_fault, weighted_word_fault}
-use Rattle.sc_text.proofs.LineLaws.{lacks}
+use Rattle.sc_text.specs.Words.{spelled, is_reduced, word_fault, weighted_word_fault}
+use Rattle.sc_line.specs.Faults.{between}
+use Rattle.sc_line.specs.Lines.{lacks}
+use Rattle.sc_line.proofs.NumberLaws.{between-natural}
 
 abbrev HasGenerator : Letter → Type 0
 HasGenerator x = x.number < GENERATORS
@@ -186,9 +187,6 @@ length-letters_of bs h =
     sym (length-spelled (letters_of bs)) ∙ ap length spells.bytes
 
 -- ---- the parts of the fault of a word with its weight
-
-pub between-natural : (low high n : ℕ) → low ≤ n → n ≤ high → between low high (pos n) ≡ true
-between-natural low high n h k = grind (arith, ints, nat_tests)
 
 pub word_fault_weight : (room : ℕ) (z : ℤ) (w : Word) → between 1 MAX_WEIGHT z ≡ false → word_fault room z w ≡ Some Range
 word_fault_weight room z w h = rw h refl

@@ -2,11 +2,12 @@
 use Rattle.std.specs.Prelude.{ℕ, List, [], ◌∷◌, drop, get_or, Option, Some, if◌then◌else◌, ℤ, pos, neg_ℤ, ◌≤ℤ◌, codes}
 use Rattle.std.specs.Option.{unwrap_or}
 use Rattle.sc_whole.specs.Spelling.{spelling}
-use Rattle.sc_chain.specs.declared.fault.Kind.{Kind}
-use Rattle.sc_chain.specs.declared.fault.Kind.TheVariants.{Form}
+use Rattle.sc_line.specs.declared.fault.Kind.{Kind}
+use Rattle.sc_line.specs.declared.fault.Kind.TheVariants.{Form}
 use Rattle.sc_text.specs.declared.limits.TheConstants.{MAX_PRICE}
-use Rattle.sc_text.specs.Lines.{Line, Field, numbers_line, fields, number_of}
-use Rattle.sc_text.specs.Faults.{NumberRange, from_to, is_named, named_fault, numbers_fault, numbers_line_fault}
+use Rattle.sc_line.specs.Lines.{Line, Field, numbers_line, fields, number_of}
+use Rattle.sc_line.specs.Forms.{LineKind}
+use Rattle.sc_line.specs.Faults.{NumberRange, from_to, is_named, named_fault, numbers_fault, numbers_line_fault}
 
 -- the numbers of at most this size
 abbrev pub of_size : ℤ → NumberRange
@@ -61,3 +62,14 @@ pair_row p = named_fault (codes "pair") (known_fault (pos p.0) (known_fault (pos
 
 abbrev pub pair_price_in : Line → ℤ
 pair_price_in = number_in 3
+
+-- ---- the kinds of lines
+
+abbrev pub a_scale : LineKind ℤ
+a_scale = record { line = scale_line; fault = scale_row; value = scale_in }
+
+abbrev pub a_base : LineKind ℤ
+a_base = record { line = base_line; fault = base_row; value = base_in }
+
+abbrev pub a_pair : ℕ × ℕ → LineKind ℤ
+a_pair p = record { line = pair_line p; fault = pair_row p; value = pair_price_in }

@@ -1,18 +1,15 @@
--- What a printer leaves where memory runs out.
-use Rattle.std.specs.Prelude.{◌≡◌, ℕ, ◌<◌, ◌++◌, List, All}
+-- The fields of a line that is printed.
+use Rattle.std.specs.Prelude.{ℕ, ◌<◌, List, ◌∷◌, map, length, codes, All}
+use Rattle.sc_theory.specs.Chains.{Chain}
+use Rattle.sc_theory.specs.Fatgraphs.{Sides}
+use Rattle.sc_line.specs.Lines.{Line, count_line}
+use Rattle.sc_text.specs.Sides.{side_line}
 use Rattle.sc_whole.specs.Spelling.{spelling}
 use Rattle.sc_fraction.specs.Frac.{frac_text}
 use Rattle.sc_chain.specs.declared.limits.TheConstants.{GENERATORS}
 use Rattle.sc_text.specs.declared.printing.Field.{Field}
 use Rattle.sc_text.specs.declared.printing.Field.TheVariants.{Text, Number, Letters, Fraction}
-use Rattle.sc_text.specs.Words.{spelled}
-
--- a front of the text stands behind the old bytes
-pub record AppendsPart (old new text : List ℕ) : Type 0 where
-  pub written : List ℕ
-  pub left : List ℕ
-  pub whole : text ≡ written ++ left
-  pub appended : new ≡ old ++ written
+use Rattle.sc_text.specs.Words.{spelled, word_line}
 
 -- the bytes of a field
 abbrev pub field_of : Field → List ℕ
@@ -27,3 +24,11 @@ AreSpellable (Text text) = Unit {0}
 AreSpellable (Number z) = Unit {0}
 AreSpellable (Letters letters) = All (λ x. x.number < GENERATORS) letters.now
 AreSpellable (Fraction fraction) = Unit {0}
+
+-- the lines of a chain: how many words there are, and the words
+abbrev pub words_lines : Chain → List Line
+words_lines c = count_line (codes "words") (length c) ∷ map word_line c
+
+-- the lines of sides: how many there are, and the sides
+abbrev pub sides_lines : Sides → List Line
+sides_lines g = count_line (codes "sides") (length g) ∷ map side_line g

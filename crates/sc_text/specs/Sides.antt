@@ -1,8 +1,11 @@
 -- The line of a side.
-use Rattle.std.specs.Prelude.{◌≤◌, [], ◌∷◌, pos, codes}
+use Rattle.std.specs.Prelude.{◌≤◌, [], ◌∷◌, Option, pos, codes}
 use Rattle.sc_theory.specs.declared.Side.{Side}
 use Rattle.sc_text.specs.declared.limits.TheConstants.{MAX_LABEL, MAX_SIDE}
-use Rattle.sc_text.specs.Lines.{Line, numbers_line}
+use Rattle.sc_line.specs.declared.fault.Kind.{Kind}
+use Rattle.sc_line.specs.Lines.{Line, numbers_line, natural_in}
+use Rattle.sc_line.specs.Faults.{between, numbers_line_fault}
+use Rattle.sc_line.specs.Forms.{LineKind}
 
 -- the line of a side
 abbrev pub side_line : Side → Line
@@ -13,3 +16,12 @@ pub record IsSideInRange (s : Side) : Type 0 where
   pub label : s.label ≤ MAX_LABEL
   pub mate : s.mate ≤ MAX_SIDE
   pub next : s.next ≤ MAX_SIDE
+
+abbrev pub side_row : Line → Option Kind
+side_row = numbers_line_fault (codes "side") (between 0 MAX_LABEL ∷ between 0 MAX_SIDE ∷ between 0 MAX_SIDE ∷ [])
+
+abbrev pub side_in : Line → Side
+side_in line = record { label = natural_in 1 line; mate = natural_in 2 line; next = natural_in 3 line }
+
+abbrev pub a_side : LineKind Side
+a_side = record { line = side_line; fault = side_row; value = side_in }

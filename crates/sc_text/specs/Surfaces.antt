@@ -1,15 +1,20 @@
 -- The text of a surface.
-use Rattle.std.specs.Prelude.{◌≤◌, ℕ, ◌+◌, ◌-◌, List, [], ◌∷◌, ◌++◌, map, length, get_or, drop, Option, Some, None, ℤ, pos, negsuc, codes}
-use Rattle.std.specs.List.{AllByRecursion, sum_by}
+use Rattle.std.specs.Prelude.{ℕ, ◌≤◌, Bool, false, List, [], length, Option, None, codes}
+use Rattle.std.specs.List.{AllByRecursion}
+use Rattle.sc_theory.specs.declared.Side.{Side}
+use Rattle.sc_theory.specs.Words.{Word}
 use Rattle.sc_theory.specs.Chains.{Chain, positions}
 use Rattle.sc_theory.specs.Fatgraphs.{Sides}
-use Rattle.sc_chain.specs.declared.fault.Kind.{Kind}
+use Rattle.sc_line.specs.Lines.{Line, text_of}
+use Rattle.sc_line.specs.Faults.{Plan}
+use Rattle.sc_line.specs.Formats.{Format, plan_of}
+use Rattle.sc_line.specs.Forms.{Form, Both, and_also, Counted, both, literal}
 use Rattle.sc_chain.specs.declared.limits.TheConstants.{MAX_WORDS, MAX_POSITIONS}
-use Rattle.sc_text.specs.declared.limits.TheConstants.{MAX_COPIES, MAX_SIDES, MAX_LABEL, MAX_SIDE}
-use Rattle.sc_text.specs.Lines.{Line, text_of, numbers_line, fields, number_of}
-use Rattle.sc_text.specs.Words.{word_line, IsWordInRange}
-use Rattle.sc_text.specs.Sides.{side_line, IsSideInRange}
-use Rattle.sc_text.specs.Faults.{Table, Plan, row_at, between, literal_fault, numbers_line_fault, named_fault, word_fields_fault}
+use Rattle.sc_text.specs.declared.limits.Limits.{Limits}
+use Rattle.sc_text.specs.declared.limits.TheConstants.{VERSION_1, MAX_COPIES, MAX_SIDES}
+use Rattle.sc_text.specs.Words.{IsWordInRange}
+use Rattle.sc_text.specs.Sides.{IsSideInRange}
+use Rattle.sc_text.specs.Parts.{words_form, copies_form, sides_form}
 
 abbrev pub heading : Line
 heading = codes "scallop surface 1"
@@ -17,25 +22,46 @@ heading = codes "scallop surface 1"
 abbrev pub ending : Line
 ending = codes "end"
 
--- the line of a name and a count
-abbrev pub count_line : List ℕ → ℕ → Line
-count_line name n = numbers_line name (pos n ∷ [])
+-- ---- the form, part by part from the last
 
--- the lines of a chain: how many words there are, and the words
-abbrev pub words_lines : Chain → List Line
-words_lines c = count_line (codes "words") (length c) ∷ map word_line c
+abbrev pub from_sides : Limits → Form (Both (Counted Side) Bool) (Both Sides (Unit {0}))
+from_sides m = both (sides_form m) (λ g. literal ending)
 
--- the lines of the sides: how many there are, and the sides
-abbrev pub sides_lines : Sides → List Line
-sides_lines g = count_line (codes "sides") (length g) ∷ map side_line g
+abbrev pub from_copies : Limits → Form (Both (Option ℕ) (Both (Counted Side) Bool)) (Both ℕ (Both Sides (Unit {0})))
+from_copies m = both (copies_form m) (λ n. from_sides m)
 
--- the lines of a surface: its chain, its copies, its sides
+abbrev pub from_words : Limits → Form (Both (Counted (ℕ × Word)) (Both (Option ℕ) (Both (Counted Side) Bool))) (Both Chain (Both ℕ (Both Sides (Unit {0}))))
+from_words m = both (words_form m) (λ c. from_copies m)
+
+-- what a surface text tells: behind its heading a chain, the copies and the sides
+abbrev pub Said : Type 0
+Said = Both (Unit {0}) (Both Chain (Both ℕ (Both Sides (Unit {0}))))
+
+abbrev pub surface_form : Limits → Form (Both Bool (Both (Counted (ℕ × Word)) (Both (Option ℕ) (Both (Counted Side) Bool)))) Said
+surface_form m = both (literal heading) (λ u. from_words m)
+
+-- where nothing was read
+abbrev pub uncounted : {A : Type 0} → Counted A
+uncounted = record { count = None; items = [] }
+
+abbrev pub surface_due : Limits → Format Said
+surface_due m = (surface_form m).due (and_also false (and_also uncounted (and_also None (and_also uncounted false))))
+
+-- a chain, the copies and the sides
+abbrev pub said : Chain → ℕ → Sides → Said
+said c n g = and_also tt (and_also c (and_also n (and_also g tt)))
+
+-- the lines and the text of a surface, and the line that is due after others
 abbrev pub surface_lines : Chain → ℕ → Sides → List Line
-surface_lines c n g =
-    heading ∷ (words_lines c ++ (count_line (codes "copies") n ∷ (sides_lines g ++ ending ∷ [])))
+surface_lines c n g = (surface_form VERSION_1).lines (said c n g)
 
 abbrev pub surface_text : Chain → ℕ → Sides → List ℕ
 surface_text c n g = text_of (surface_lines c n g)
+
+unfoldable pub surface_table : Plan
+surface_table = plan_of (surface_due VERSION_1)
+
+-- ---- the ranges
 
 -- what a chain in a text may hold
 pub record IsChainInRange (c : Chain) : Type 0 where
@@ -50,44 +76,3 @@ pub record IsSurfaceInRange (c : Chain) (n : ℕ) (g : Sides) : Type 0 where
   pub high : n ≤ MAX_COPIES
   pub count : length g ≤ MAX_SIDES
   pub sides : AllByRecursion IsSideInRange g
-
--- ---- the table of its lines
-
--- the number in a line of a name and a count, and 0 where there is none
-abbrev pub natural : Option ℤ → ℕ
-natural (Some (pos n)) = n
-natural (Some (negsuc n)) = 0
-natural None = 0
-
-abbrev pub count_in : Line → ℕ
-count_in line = natural (number_of (get_or (fields line) 1 []))
-
--- how many letters a line of a word has
-abbrev pub letters_in : Line → ℕ
-letters_in line = length (get_or (fields line) 2 [])
-
--- the faults of the lines of a word, of the copies, of a side
-abbrev pub word_row : ℕ → Line → Option Kind
-word_row room = named_fault (codes "word") (word_fields_fault room)
-
-abbrev pub side_row : Line → Option Kind
-side_row = numbers_line_fault (codes "side") (between 0 MAX_LABEL ∷ between 0 MAX_SIDE ∷ between 0 MAX_SIDE ∷ [])
-
--- the lines of a text with so many words and sides, where the next word may have so many letters
-abbrev pub table_of : ℕ → ℕ → ℕ → Table
-table_of words room sides =
-    (1, literal_fault heading)
-    ∷ (1, numbers_line_fault (codes "words") (between 0 MAX_WORDS ∷ []))
-    ∷ (words, word_row room)
-    ∷ (1, numbers_line_fault (codes "copies") (between 1 MAX_COPIES ∷ []))
-    ∷ (1, numbers_line_fault (codes "sides") (between 0 MAX_SIDES ∷ []))
-    ∷ (sides, side_row)
-    ∷ (1, literal_fault ending)
-    ∷ []
-
--- the second line tells how many words come, and the second one after them how many sides; a word may have as many
--- letters as those before it leave
-unfoldable pub surface_table : Plan
-surface_table before =
-    let words = count_in (get_or before 1 []) in
-    row_at (table_of words (MAX_POSITIONS - sum_by letters_in (drop 2 before)) (count_in (get_or before (3 + words) []))) (length before)

@@ -4,11 +4,12 @@ use Rattle.std.specs.List.{list_all, AllByRecursion}
 use Rattle.std.specs.Option.{option_map_or}
 use Rattle.std.specs.Str.{bytes_eq}
 use Rattle.sc_whole.specs.Spelling.{spelling}
-use Rattle.sc_chain.specs.declared.fault.Kind.{Kind}
-use Rattle.sc_chain.specs.declared.fault.Kind.TheVariants.{Form, Range}
+use Rattle.sc_line.specs.declared.fault.Kind.{Kind}
+use Rattle.sc_line.specs.declared.fault.Kind.TheVariants.{Form, Range}
 use Rattle.sc_text.specs.declared.limits.TheConstants.{MAX_ENTRY}
-use Rattle.sc_text.specs.Lines.{Line, Field, spaced, fields, number_of}
-use Rattle.sc_text.specs.Faults.{named_fault}
+use Rattle.sc_line.specs.Lines.{Line, Field, spaced, fields, number_of}
+use Rattle.sc_line.specs.Faults.{named_fault}
+use Rattle.sc_line.specs.Forms.{LineKind}
 use Rattle.sc_text.specs.PriceLines.{of_size, known_fault}
 
 -- a number or none
@@ -60,3 +61,7 @@ IsEntryInRange (Some z) = (neg_ℤ MAX_ENTRY ≤ℤ z) × (z ≤ℤ MAX_ENTRY)
 pub record IsRowInRange (count : ℕ) (entries : List Entry) : Type 0 where
   pub count_is : length entries ≡ count
   pub entries_in_range : AllByRecursion IsEntryInRange entries
+
+-- the line of the row of the start s
+abbrev pub a_row : ℕ → ℕ → LineKind (List Entry)
+a_row count s = record { line = from_line s; fault = from_row count s; value = entries_in }

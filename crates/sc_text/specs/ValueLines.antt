@@ -6,11 +6,12 @@ use Rattle.std.specs.Int.{IsGcd}
 use Rattle.sc_fraction.specs.declared.frac.Frac.{Frac}
 use Rattle.sc_fraction.specs.Frac.{numerator, denominator}
 use Rattle.sc_fraction.specs.Quotient.{quotient_text}
-use Rattle.sc_chain.specs.declared.fault.Kind.{Kind}
-use Rattle.sc_chain.specs.declared.fault.Kind.TheVariants.{Form, Range}
+use Rattle.sc_line.specs.declared.fault.Kind.{Kind}
+use Rattle.sc_line.specs.declared.fault.Kind.TheVariants.{Form, Range}
 use Rattle.sc_text.specs.declared.limits.TheConstants.{MAX_VALUE}
-use Rattle.sc_text.specs.Lines.{Line, Field, spaced, fields, number_of}
-use Rattle.sc_text.specs.Faults.{NumberRange, between, named_fault}
+use Rattle.sc_line.specs.Lines.{Line, Field, spaced, fields, number_of}
+use Rattle.sc_line.specs.Faults.{NumberRange, between, named_fault}
+use Rattle.sc_line.specs.Forms.{LineKind}
 
 -- a numerator and a denominator
 abbrev pub Quotient : Type 0
@@ -67,3 +68,6 @@ pub record IsValueInRange (v : Quotient) : Type 0 where
   pub den_low : pos 1 ≤ℤ v.1
   pub den_high : v.1 ≤ℤ pos MAX_VALUE
   pub lowest : IsGcd (unsigned_abs v.0) (unsigned_abs v.1) 1
+
+abbrev pub a_value : LineKind Quotient
+a_value = record { line = value_line; fault = value_row; value = value_in }

@@ -3,7 +3,7 @@
 ghost use Rattle.std.specs.Prelude.{◌≡◌, ℕ, List};
 ghost use Rattle.sc_theory.specs.Chains.{Chain};
 ghost use Rattle.sc_theory.specs.Fatgraphs.{Sides};
-ghost use Rattle.sc_text.specs.Faults.{IsFaultless};
+ghost use Rattle.sc_line.specs.Faults.{IsFaultless};
 ghost use Rattle.sc_text.specs.Surfaces.{surface_table, surface_text, IsSurfaceInRange};
 
 /// The text of a surface in its ranges has no fault at any line, so it is read again.

@@ -1,4 +1,8 @@
-//! The ranges of the numbers in a text.
+//! The ranges of the numbers in a text, and how much a text may hold.
+
+ghost use Rattle.std.specs.Prelude.{◌≡◌, pos};
+
+use sc_chain::limits::{MAX_POSITIONS, MAX_WORDS};
 
 /// The weight of a word, at least 1.
 pub const MAX_WEIGHT: u32 = 1000;
@@ -26,3 +30,40 @@ pub const MAX_ENTRY: i128 = 1_267_650_600_228_229_401_496_703_205_375;
 
 /// The pivots of a journal.
 pub const MAX_PIVOTS: u32 = 50_000;
+
+/// How much a text may hold: the limits that the form of a text takes.
+#[derive(Clone, Copy, Debug)]
+pub struct Limits {
+    /// The words of a chain.
+    pub words: u32,
+    /// The letters that they have together.
+    pub positions: usize,
+    /// The copies of a surface.
+    pub copies: u32,
+    /// Its sides.
+    pub sides: u32,
+    /// The pivots of a journal.
+    pub pivots: u32,
+}
+
+/// The limits of the texts of version 1.
+pub const VERSION_1: Limits = Limits {
+    words: MAX_WORDS as u32,
+    positions: MAX_POSITIONS,
+    copies: MAX_COPIES,
+    sides: MAX_SIDES,
+    pivots: MAX_PIVOTS,
+};
+
+/// The numbers of the limits.
+pub fn numbers()
+    ensures weight { MAX_WEIGHT ≡ 1000 }
+    ensures copies { MAX_COPIES ≡ 1048576 }
+    ensures sides { MAX_SIDES ≡ 1048576 }
+    ensures label { MAX_LABEL ≡ 63 }
+    ensures side { MAX_SIDE ≡ 1048575 }
+    ensures value { MAX_VALUE ≡ 2097152 }
+    ensures price { MAX_PRICE ≡ pos 1237940039285380274899124223 }
+    ensures entry { MAX_ENTRY ≡ pos 1267650600228229401496703205375 }
+    ensures pivots { MAX_PIVOTS ≡ 50000 }
+{}

@@ -1,16 +1,15 @@
 //! The lines of a price list: its scale, and the prices of words and of pairs.
 
 ghost use Rattle.std.specs.Prelude.{◌≡◌, ◌++◌, Some, IfOk, IfErr, OnOk, OnErr};
-ghost use Rattle.sc_text.specs.Lines.{ended};
-ghost use Rattle.sc_text.specs.PriceLines.{IsScaleInRange, IsPriceInRange};
+ghost use Rattle.sc_line.specs.Lines.{ended};
+ghost use Rattle.sc_text.specs.PriceLines.{IsScaleInRange, IsPriceInRange, a_scale};
 ghost use Rattle.sc_text.specs.PriceLines as lines;
-ghost use Rattle.sc_text.specs.Printing.{AppendsPart};
+ghost use Rattle.sc_line.specs.Printing.{AppendsPart};
 
-use crate::fields::{Fields, number_line, within};
 use crate::limits::MAX_PRICE;
 use crate::printing::{Field, print_line};
-use sc_chain::Kind;
-use std::alloc::AllocError;
+use sc_line::{Fields, Kind, LineFault, LineItem, number_line, within};
+use std::alloc::{AllocError, Global};
 
 /// The scale of a line `scale D`.
 pub fn scale_line(line: &[u8]) -> Result<i128, Kind>
@@ -69,4 +68,26 @@ pub fn print_pair_line(p: u32, q: u32, price: i128, out: &mut Vec<u8>) -> Result
         Field::Number(price),
     ];
     print_line(b"pair", &fields, out)
+}
+
+/// The line of a scale.
+#[derive(Drop)]
+pub struct ScaleLine;
+
+impl LineItem for ScaleLine {
+    type Context = ();
+
+    type Value = i128;
+
+    ghost kind = { λ k c before. a_scale };
+
+    fn read(
+        &self,
+        _alloc: Global,
+        line: &[u8],
+        _before: &[i128],
+        _context: &(),
+    ) -> Result<i128, LineFault> {
+        Ok(scale_line(line)?)
+    }
 }

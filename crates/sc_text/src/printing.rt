@@ -4,11 +4,13 @@ ghost use Rattle.std.specs.Prelude.{◌≡◌, ◌<◌, ◌++◌, ◌∷◌, [],
 ghost use Rattle.std.specs.List.{flat_map};
 ghost use Rattle.sc_chain.specs.declared.limits.TheConstants.{GENERATORS};
 ghost use Rattle.sc_chain.specs.Spelling as spelling;
-ghost use Rattle.sc_text.specs.Lines.{ended, text_of, spaced};
-ghost use Rattle.sc_text.specs.Printing.{AppendsPart, field_of, AreSpellable};
+ghost use Rattle.sc_line.specs.Lines.{ended, text_of, spaced, count_line};
+ghost use Rattle.sc_line.specs.Printing.{AppendsPart};
+ghost use Rattle.sc_text.specs.Printing.{field_of, AreSpellable};
 ghost use Rattle.sc_text.specs.Words as words;
 ghost use Rattle.sc_text.specs.Sides as side_lines;
 ghost use Rattle.sc_text.specs.Surfaces as surfaces;
+ghost use Rattle.sc_text.specs.Printing as printed;
 
 use sc_chain::{Letter, Word};
 use sc_fraction::Frac;
@@ -78,8 +80,8 @@ pub fn print_line(name: &[u8], fields: &[Field], out: &mut Vec<u8>) -> Result<()
 
 /// Appends a line of a name and a count.
 pub fn print_count_line(name: &[u8], count: u64, out: &mut Vec<u8>) -> Result<(), AllocError>
-    ensures ok { OnOk result (out.new.items ≡ out.old.items ++ ended (surfaces.count_line name.now count)) }
-    ensures err { OnErr result (AppendsPart out.old.items out.new.items (ended (surfaces.count_line name.now count))) }
+    ensures ok { OnOk result (out.new.items ≡ out.old.items ++ ended (count_line name.now count)) }
+    ensures err { OnErr result (AppendsPart out.old.items out.new.items (ended (count_line name.now count))) }
 {
     print_line(name, &[Field::Number(i128::from(count))], out)
 }
@@ -134,8 +136,8 @@ fn print_side_lines(sides: &[Side], out: &mut Vec<u8>) -> Result<(), AllocError>
 /// Appends the lines of a chain: how many words there are, and the words.
 pub fn print_words(entries: &[(u32, Word)], out: &mut Vec<u8>) -> Result<(), AllocError>
     requires { All (λ w. All (λ x. x.number < GENERATORS) w.1) entries.now }
-    ensures ok { OnOk result (out.new.items ≡ out.old.items ++ text_of (surfaces.words_lines entries.now)) }
-    ensures err { OnErr result (AppendsPart out.old.items out.new.items (text_of (surfaces.words_lines entries.now))) }
+    ensures ok { OnOk result (out.new.items ≡ out.old.items ++ text_of (printed.words_lines entries.now)) }
+    ensures err { OnErr result (AppendsPart out.old.items out.new.items (text_of (printed.words_lines entries.now))) }
 {
     print_count_line(b"words", entries.len() as u64, out)?;
     print_word_lines(entries, out)
@@ -143,8 +145,8 @@ pub fn print_words(entries: &[(u32, Word)], out: &mut Vec<u8>) -> Result<(), All
 
 /// Appends the lines of the sides: how many there are, and the sides.
 pub fn print_sides(sides: &[Side], out: &mut Vec<u8>) -> Result<(), AllocError>
-    ensures ok { OnOk result (out.new.items ≡ out.old.items ++ text_of (surfaces.sides_lines sides.now)) }
-    ensures err { OnErr result (AppendsPart out.old.items out.new.items (text_of (surfaces.sides_lines sides.now))) }
+    ensures ok { OnOk result (out.new.items ≡ out.old.items ++ text_of (printed.sides_lines sides.now)) }
+    ensures err { OnErr result (AppendsPart out.old.items out.new.items (text_of (printed.sides_lines sides.now))) }
 {
     print_count_line(b"sides", sides.len() as u64, out)?;
     print_side_lines(sides, out)

@@ -1,14 +1,15 @@
-//! The line of a side.
+//! The lines of sides.
 
 ghost use Rattle.std.specs.Prelude.{◌≡◌, ◌≤◌, [], ◌∷◌, Some, IfOk, IfErr, codes};
 ghost use Rattle.sc_text.specs.declared.limits.TheConstants.{MAX_LABEL, MAX_SIDE};
 ghost use Rattle.sc_text.specs.Sides as spellings;
-ghost use Rattle.sc_text.specs.Faults.{between, numbers_line_fault};
+ghost use Rattle.sc_line.specs.Faults.{between, numbers_line_fault};
+ghost use Rattle.sc_text.specs.Sides.{a_side};
 
-use crate::fields::{Fields, in_range};
 use crate::limits::{MAX_LABEL, MAX_SIDE};
-use sc_chain::Kind;
+use sc_line::{Fields, Kind, LineFault, LineItem, in_range};
 use sc_theory::Side;
+use std::alloc::Global;
 
 /// The side of a line `side LABEL MATE NEXT`.
 pub fn side_line(line: &[u8]) -> Result<Side, Kind>
@@ -26,4 +27,26 @@ pub fn side_line(line: &[u8]) -> Result<Side, Kind>
         mate: in_range(mate, 0, MAX_SIDE)?,
         next: in_range(next, 0, MAX_SIDE)?,
     })
+}
+
+/// The lines of sides.
+#[derive(Drop)]
+pub struct SideLines;
+
+impl LineItem for SideLines {
+    type Context = ();
+
+    type Value = Side;
+
+    ghost kind = { λ k c before. a_side };
+
+    fn read(
+        &self,
+        _alloc: Global,
+        line: &[u8],
+        _before: &[Side],
+        _context: &(),
+    ) -> Result<Side, LineFault> {
+        Ok(side_line(line)?)
+    }
 }

@@ -2,16 +2,14 @@
 
 ghost use Rattle.std.specs.Prelude.{◌≡◌, ◌++◌, ◌∷◌, Some, map, IfOk, IfErr, OnOk, OnErr};
 ghost use Rattle.std.specs.List.{flat_map};
-ghost use Rattle.sc_text.specs.LineFaults.{IsFault};
-ghost use Rattle.sc_text.specs.Lines.{ended};
-ghost use Rattle.sc_text.specs.Printing.{AppendsPart};
+ghost use Rattle.sc_line.specs.LineFaults.{IsFault};
+ghost use Rattle.sc_line.specs.Lines.{ended};
+ghost use Rattle.sc_line.specs.Printing.{AppendsPart};
 ghost use Rattle.sc_text.specs.TableLines.{entry_field, entry_fault, entries_fault, from_row, IsEntryInRange, IsRowInRange};
 ghost use Rattle.sc_text.specs.TableLines as lines;
 
-use crate::fault::LineFault;
-use crate::fields::{Fields, number_of, within};
 use crate::limits::MAX_ENTRY;
-use sc_chain::Kind;
+use sc_line::{Fields, Kind, LineFault, number_of, within};
 use sc_whole::print_decimal;
 use std::alloc::{AllocError, Global};
 

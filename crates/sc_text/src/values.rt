@@ -1,20 +1,19 @@
 //! The line of a value, a fraction in lowest terms.
 
 ghost use Rattle.std.specs.Prelude.{◌≡◌, ◌≤◌, ◌++◌, false, pos, Some, IfOk, IfErr, OnOk, OnErr};
-ghost use Rattle.sc_chain.specs.declared.fault.Kind.TheVariants as kinds;
+ghost use Rattle.sc_line.specs.declared.fault.Kind.TheVariants as kinds;
 ghost use Rattle.sc_fraction.specs.Frac.{numerator, denominator, frac_text};
 ghost use Rattle.sc_text.specs.declared.limits.TheConstants.{MAX_VALUE};
-ghost use Rattle.sc_text.specs.Faults.{between};
-ghost use Rattle.sc_text.specs.Lines.{ended};
-ghost use Rattle.sc_text.specs.Printing.{AppendsPart};
+ghost use Rattle.sc_line.specs.Faults.{between};
+ghost use Rattle.sc_line.specs.Lines.{ended};
+ghost use Rattle.sc_line.specs.Printing.{AppendsPart};
 ghost use Rattle.sc_text.specs.ValueLines.{are_coprime, halves, fraction_fault, quotient_of, IsValueInRange};
 ghost use Rattle.sc_text.specs.ValueLines as lines;
 
-use crate::fields::{Fields, cut, in_range, number_of};
 use crate::limits::MAX_VALUE;
 use crate::printing::{Field, print_line};
-use sc_chain::Kind;
 use sc_fraction::Frac;
+use sc_line::{Fields, Kind, cut, in_range, number_of};
 use std::alloc::AllocError;
 
 // num/den, where it is in lowest terms.

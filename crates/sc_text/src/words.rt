@@ -1,18 +1,19 @@
-//! The line of a word.
+//! The lines of words.
 
-ghost use Rattle.std.specs.Prelude.{◌≡◌, ◌↔◌, ◌≤◌, ◌&&◌, not, false, ◌==◌, length, Some, is_some, IsTrue, IfOk, IfErr, codes, ℤ, pos};
+ghost use Rattle.std.specs.Prelude.{◌≡◌, ◌↔◌, ◌≤◌, ◌-◌, ◌&&◌, not, false, ◌==◌, length, Some, is_some, IsTrue, IfOk, IfErr, codes, ℤ, pos};
 ghost use Rattle.std.specs.List.{list_all, filter_map};
-ghost use Rattle.sc_chain.specs.declared.fault.Kind.TheVariants as kinds;
+ghost use Rattle.sc_line.specs.declared.fault.Kind.TheVariants as kinds;
 ghost use Rattle.sc_chain.specs.Spelling as spelling;
 ghost use Rattle.sc_text.specs.Words as spellings;
-ghost use Rattle.sc_text.specs.Faults.{named_fault, word_fields_fault, weighted_word_fault};
-ghost use Rattle.sc_text.specs.Lines.{IsNarrowed};
-ghost use Rattle.sc_text.specs.LineFaults.{IsFault};
+ghost use Rattle.sc_line.specs.Faults.{named_fault};
+ghost use Rattle.sc_text.specs.Words.{word_fields_fault, weighted_word_fault, a_word};
+ghost use Rattle.sc_theory.specs.Chains.{positions};
+ghost use Rattle.sc_line.specs.Lines.{IsNarrowed};
+ghost use Rattle.sc_line.specs.LineFaults.{IsFault};
 
-use crate::fault::LineFault;
-use crate::fields::{Fields, in_range};
 use crate::limits::MAX_WEIGHT;
-use sc_chain::{Kind, Word, are_letters, letters_of};
+use sc_chain::{Word, are_letters, letters_of};
+use sc_line::{Fields, Kind, LineFault, LineItem, in_range};
 use std::alloc::Global;
 
 fn spells_word(field: &[u8]) -> bool
@@ -58,4 +59,39 @@ pub fn word_line(alloc: Global, line: &[u8], room: usize) -> Result<(u32, Word),
     };
     fields.end()?;
     weighted_word(alloc, weight, letters, room)
+}
+
+// How many letters words leave of so many.
+fn room_behind(words: &[(u32, Word)], letters: usize) -> usize
+    ensures { result ≡ letters - positions words.now }
+{
+    let mut room = letters;
+    for entry in words {
+        room = room.saturating_sub(entry.1.len());
+    }
+    room
+}
+
+/// The lines of words, which may have so many letters together.
+#[derive(Drop)]
+pub struct WordLines {
+    pub letters: usize,
+}
+
+impl LineItem for WordLines {
+    type Context = ();
+
+    type Value = (u32, Word);
+
+    ghost kind = { λ k c before. a_word (k.letters - positions before) };
+
+    fn read(
+        &self,
+        alloc: Global,
+        line: &[u8],
+        before: &[(u32, Word)],
+        _context: &(),
+    ) -> Result<(u32, Word), LineFault> {
+        word_line(alloc, line, room_behind(before, self.letters))
+    }
 }

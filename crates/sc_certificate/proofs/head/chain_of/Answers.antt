@@ -1,6 +1,6 @@
 use Rattle.std.proofs.Common.{subst, sym}
 use Rattle.sc_text.specs.Surfaces.{IsChainInRange}
-use Rattle.sc_fatgraph.proofs.ReadChains.{only_memory}
+use Rattle.sc_text.proofs.ReadChains.{only_memory}
 use Rattle.sc_certificate.proofs.head.chain_of.Goals as goal
 
 pub unreachable-requires : goal.unreachable-requires

@@ -4,7 +4,7 @@ use Rattle.std.proofs.lemmas.Result.{err_from_is_err_and}
 use Rattle.sc_whole.specs.Spelling.{spelling}
 use Rattle.sc_theory.specs.Columns.{rows}
 use Rattle.sc_theory.specs.Walks.{IsPolygon}
-use Rattle.sc_text.specs.Lines.{fields, IsNarrowed}
+use Rattle.sc_line.specs.Lines.{fields, IsNarrowed}
 use Rattle.sc_certificate.specs.PivotLines.{is_below}
 use Rattle.sc_certificate.proofs.PivotLaws.{line_walk_bad, line_no_polygon, line_row_far, line_of_pivot}
 use Rattle.sc_certificate.proofs.pivots.pivot_line.Goals as goal

@@ -1,6 +1,6 @@
 use Rattle.std.proofs.Common.{refl}
 use Rattle.std.proofs.lemmas.Result.{err_from_is_err_and}
-use Rattle.sc_text.proofs.LineLaws.{told_is}
+use Rattle.sc_line.proofs.LineLaws.{told_is}
 use Rattle.sc_certificate.proofs.PivotLaws.{no_position, far_position}
 use Rattle.sc_certificate.proofs.pivots.position.Goals as goal
 

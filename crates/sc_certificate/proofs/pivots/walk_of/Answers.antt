@@ -1,7 +1,7 @@
 use Rattle.std.proofs.Common.{◌≡◌, ◌++◌, ◌∷◌, List, map, pos, ap, ◌∙◌}
 use Rattle.std.proofs.lemmas.Result.{err_from_is_err_and}
 use Rattle.sc_whole.specs.Spelling.{spelling}
-use Rattle.sc_text.specs.Lines.{Field}
+use Rattle.sc_line.specs.Lines.{Field}
 use Rattle.sc_certificate.proofs.PivotLaws.{bad_field}
 use Rattle.sc_certificate.proofs.pivots.walk_of.Goals as goal
 

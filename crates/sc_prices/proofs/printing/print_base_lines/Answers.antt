@@ -1,8 +1,8 @@
 use Rattle.std.proofs.Common.{◌+◌, map, take, drop, get_or, pos, FitsSigned, to_z-of_z, rules}
 use Rattle.std.specs.Int.{w128}
-use Rattle.sc_text.specs.Lines.{text_of}
+use Rattle.sc_line.specs.Lines.{text_of}
 use Rattle.sc_text.specs.PriceLines.{base_line}
-use Rattle.sc_text.proofs.PrintLaws.{part_after, lines_at, on_err}
+use Rattle.sc_line.proofs.PrintLaws.{part_after, lines_at, on_err}
 use Rattle.sc_prices.proofs.printing.print_base_lines.Goals as goal
 
 pub returns-in_err-print_base_line-clause-err : goal.returns-in_err-print_base_line-clause-err

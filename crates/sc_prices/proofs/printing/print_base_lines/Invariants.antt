@@ -1,5 +1,5 @@
 use Rattle.std.proofs.Common.{◌≡◌, ◌++◌, take, map}
-use Rattle.sc_text.specs.Lines.{text_of}
+use Rattle.sc_line.specs.Lines.{text_of}
 use Rattle.sc_text.specs.PriceLines.{base_line}
 use Rattle.sc_prices.proofs.printing.print_base_lines.Given as goal
 

@@ -2,7 +2,7 @@ use Rattle.std.proofs.Common.{get_or, pos, FitsSigned, to_z-of_z, rules}
 use Rattle.std.specs.Int.{w128}
 use Rattle.std.specs.List.{zip}
 use Rattle.sc_text.specs.PriceLines.{pair_line}
-use Rattle.sc_text.proofs.PrintLaws.{on_err}
+use Rattle.sc_line.proofs.PrintLaws.{on_err}
 use Rattle.sc_prices.proofs.Pieces.{lines_more, lines_part, lines_done, zip_line, zip_inside, zip_past}
 use Rattle.sc_prices.proofs.printing.print_pair_lines.Goals as goal
 

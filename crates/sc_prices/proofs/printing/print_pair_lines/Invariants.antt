@@ -1,6 +1,6 @@
 use Rattle.std.proofs.Common.{◌≡◌, ◌++◌, take, map}
 use Rattle.std.specs.List.{zip}
-use Rattle.sc_text.specs.Lines.{text_of}
+use Rattle.sc_line.specs.Lines.{text_of}
 use Rattle.sc_text.specs.PriceLines.{pair_line}
 use Rattle.sc_prices.proofs.printing.print_pair_lines.Given as goal
 

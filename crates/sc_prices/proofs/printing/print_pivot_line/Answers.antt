@@ -1,8 +1,8 @@
 use Rattle.std.proofs.Common.{◌≡◌, ◌∙◌, ◌++◌, ℕ, List, [], ◌∷◌, codes, pos, rules, refl, sym, ap, subst}
 use Rattle.std.specs.List.{flat_map}
 use Rattle.sc_whole.specs.Spelling.{spelling}
-use Rattle.sc_text.specs.Printing.{AppendsPart}
-use Rattle.sc_text.proofs.PrintLaws.{on_err, front_part, then_part, then_all, stopped}
+use Rattle.sc_line.specs.Printing.{AppendsPart}
+use Rattle.sc_line.proofs.PrintLaws.{on_err, front_part, then_part, then_all, stopped}
 use Rattle.sc_prices.proofs.Pieces.{pivot_pieces}
 use Rattle.sc_prices.proofs.printing.print_pivot_line.Goals as goal
 

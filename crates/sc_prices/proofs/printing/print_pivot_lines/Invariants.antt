@@ -1,5 +1,5 @@
 use Rattle.std.proofs.Common.{◌≡◌, ◌++◌, take, map}
-use Rattle.sc_text.specs.Lines.{text_of}
+use Rattle.sc_line.specs.Lines.{text_of}
 use Rattle.sc_certificate.specs.PivotLines.{pivot_line}
 use Rattle.sc_prices.proofs.printing.print_pivot_lines.Given as goal
 

@@ -1,6 +1,6 @@
 use Rattle.std.proofs.Common.{◌≡◌, ◌++◌, take, map}
 use Rattle.std.specs.List.{enumerate_from}
-use Rattle.sc_text.specs.Lines.{text_of}
+use Rattle.sc_line.specs.Lines.{text_of}
 use Rattle.sc_text.specs.TableLines.{from_line}
 use Rattle.sc_prices.proofs.printing.print_rows.Given as goal
 

@@ -1,6 +1,6 @@
 use Rattle.std.proofs.Common.{◌∷◌, pos}
 use Rattle.sc_whole.specs.Spelling.{spelling}
-use Rattle.sc_text.proofs.PrintLaws.{part_after, pieces_at, on_err}
+use Rattle.sc_line.proofs.PrintLaws.{part_after, pieces_at, on_err}
 use Rattle.sc_prices.proofs.printing.print_walk.Goals as goal
 
 pub returns-in_err-print_place-clause-err : goal.returns-in_err-print_place-clause-err

@@ -2,8 +2,8 @@ use Rattle.std.proofs.Common.{◌≡◌, [], ◌∷◌, Some, pos, neg_ℤ, ◌�
 use Rattle.std.proofs.lemmas.Result.{IfOk-weaker}
 use Rattle.sc_whole.specs.Spelling.{spelling}
 use Rattle.sc_text.specs.declared.limits.TheConstants.{MAX_PRICE}
-use Rattle.sc_text.specs.Lines.{fields}
-use Rattle.sc_text.proofs.LineLaws.{taken_is, line_from_fields}
+use Rattle.sc_line.specs.Lines.{fields}
+use Rattle.sc_line.proofs.LineLaws.{taken_is, line_from_fields}
 use Rattle.sc_text.proofs.prices.pair_line.Goals as goal
 
 pub returns-clause-ok : goal.returns-clause-ok

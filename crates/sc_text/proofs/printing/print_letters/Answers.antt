@@ -1,7 +1,7 @@
 use Rattle.std.proofs.Common.{◌≡◌, ◌∙◌, ◌++◌, take, drop, sym, ap}
 use Rattle.std.proofs.lemmas.List.{map-append, take-append-drop}
 use Rattle.sc_text.specs.Words.{spelled}
-use Rattle.sc_text.proofs.PrintLaws.{stopped, on_err}
+use Rattle.sc_line.proofs.PrintLaws.{stopped, on_err}
 use Rattle.sc_text.proofs.printing.print_letters.Goals as goal
 
 pub returns-in_err-push-clause-err : goal.returns-in_err-push-clause-err

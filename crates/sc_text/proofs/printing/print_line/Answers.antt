@@ -1,9 +1,9 @@
 use Rattle.std.proofs.Common.{◌≡◌, ◌∙◌, ◌+◌, ◌++◌, List, [], ◌∷◌, map, take, drop, sym, ap, subst, append_assoc, arith}
 use Rattle.std.specs.List.{flat_map}
 use Rattle.std.proofs.lemmas.List.{take_all}
-use Rattle.sc_text.specs.Lines.{spaced, ended}
+use Rattle.sc_line.specs.Lines.{spaced, ended}
 use Rattle.sc_text.specs.Printing.{field_of}
-use Rattle.sc_text.proofs.PrintLaws.{part_after, stopped, line_parts, line_field, line_flat, on_err}
+use Rattle.sc_line.proofs.PrintLaws.{part_after, stopped, line_parts, line_field, line_flat, on_err}
 use Rattle.sc_text.proofs.printing.print_line.Goals as goal
 
 pub returns-in_err-push-clause-err : goal.returns-in_err-push-clause-err

@@ -1,7 +1,7 @@
 use Rattle.std.proofs.Common.{◌+◌, map, take, drop}
-use Rattle.sc_text.specs.Lines.{text_of}
+use Rattle.sc_line.specs.Lines.{text_of}
 use Rattle.sc_text.specs.Sides.{side_line}
-use Rattle.sc_text.proofs.PrintLaws.{part_after, lines_at, on_err}
+use Rattle.sc_line.proofs.PrintLaws.{part_after, lines_at, on_err}
 use Rattle.sc_text.proofs.printing.print_side_lines.Goals as goal
 
 pub returns-in_err-print_side_line-clause-err : goal.returns-in_err-print_side_line-clause-err

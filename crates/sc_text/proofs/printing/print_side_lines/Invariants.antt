@@ -1,5 +1,5 @@
 use Rattle.std.proofs.Common.{◌≡◌, ◌++◌, take, map}
-use Rattle.sc_text.specs.Lines.{text_of}
+use Rattle.sc_line.specs.Lines.{text_of}
 use Rattle.sc_text.specs.Sides.{side_line}
 use Rattle.sc_text.proofs.printing.print_side_lines.Given as goal
 

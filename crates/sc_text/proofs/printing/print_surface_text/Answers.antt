@@ -1,9 +1,12 @@
 use Rattle.std.proofs.Common.{◌≡◌, ℕ, ◌∙◌, ◌++◌, List, codes, sym, ap, subst}
 use Rattle.std.proofs.lemmas.Result.{on_err_weaker, on_ok_weaker}
-use Rattle.sc_text.specs.Lines.{ended, text_of}
-use Rattle.sc_text.specs.Printing.{AppendsPart}
-use Rattle.sc_text.specs.Surfaces.{heading, ending, count_line, words_lines, sides_lines}
-use Rattle.sc_text.proofs.PrintLaws.{on_err, front_part, then_part, then_all, surface_pieces}
+use Rattle.sc_line.specs.Lines.{ended, text_of}
+use Rattle.sc_line.specs.Printing.{AppendsPart}
+use Rattle.sc_text.specs.Surfaces.{heading, ending}
+use Rattle.sc_line.specs.Lines.{count_line}
+use Rattle.sc_text.specs.Printing.{words_lines, sides_lines}
+use Rattle.sc_line.proofs.PrintLaws.{on_err, front_part, then_part, then_all}
+use Rattle.sc_text.proofs.PieceLaws.{surface_pieces}
 use Rattle.sc_text.proofs.printing.print_surface_text.Goals as goal
 
 pub returns-in_err-print_line-clause-err : goal.returns-in_err-print_line-clause-err

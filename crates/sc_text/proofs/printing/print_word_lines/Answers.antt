@@ -1,7 +1,7 @@
 use Rattle.std.proofs.Common.{◌≡◌, ◌+◌, ◌++◌, map, take, drop, sym, subst}
-use Rattle.sc_text.specs.Lines.{ended, text_of}
+use Rattle.sc_line.specs.Lines.{ended, text_of}
 use Rattle.sc_text.specs.Words.{word_line}
-use Rattle.sc_text.proofs.PrintLaws.{part_after, lines_at, on_err}
+use Rattle.sc_line.proofs.PrintLaws.{part_after, lines_at, on_err}
 use Rattle.sc_text.proofs.printing.print_word_lines.Goals as goal
 
 pub print_word_line-requires : goal.print_word_line-requires

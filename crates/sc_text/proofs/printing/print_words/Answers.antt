@@ -1,10 +1,10 @@
 use Rattle.std.proofs.Common.{◌++◌, List, [], map, length, codes, refl, sym, ap, append-nil}
 use Rattle.std.proofs.lemmas.Result.{on_err_weaker}
-use Rattle.sc_text.specs.Lines.{ended, text_of}
-use Rattle.sc_text.specs.Printing.{AppendsPart}
+use Rattle.sc_line.specs.Lines.{ended, text_of}
+use Rattle.sc_line.specs.Printing.{AppendsPart}
 use Rattle.sc_text.specs.Words.{word_line}
-use Rattle.sc_text.specs.Surfaces.{count_line}
-use Rattle.sc_text.proofs.PrintLaws.{part_after, on_err}
+use Rattle.sc_line.specs.Lines.{count_line}
+use Rattle.sc_line.proofs.PrintLaws.{part_after, on_err}
 use Rattle.sc_text.proofs.printing.print_words.Goals as goal
 
 pub returns-in_err-print_count_line-clause-err : goal.returns-in_err-print_count_line-clause-err

@@ -1,7 +1,7 @@
 use Rattle.std.proofs.Common.{◌≡◌, [], ◌∷◌, pos, codes}
 use Rattle.sc_whole.specs.Spelling.{spelling}
-use Rattle.sc_text.specs.Lines.{fields}
-use Rattle.sc_text.proofs.LineLaws.{taken_is, line_from_fields}
+use Rattle.sc_line.specs.Lines.{fields}
+use Rattle.sc_line.proofs.LineLaws.{taken_is, line_from_fields}
 use Rattle.sc_text.proofs.sides.side_line.Goals as goal
 
 pub returns-clause-ok : goal.returns-clause-ok

@@ -1,6 +1,16 @@
-use Rattle.sc_text.specs.Surfaces.{surface_table}
-use Rattle.sc_text.proofs.FaultLaws.{answered}
+use Rattle.sc_text.proofs.SurfaceLaws.{is_faultless, is_malformed, only_first, is_same, is_memory}
 use Rattle.sc_text.proofs.surface.read_surface_text.Goals as goal
 
-pub returns-clause-only : goal.returns-clause-only
-returns-clause-only c line kind h = answered surface_table c.args.bytes.now line kind c.read_lines.result c.read_lines.ensures.faultless c.read_lines.ensures.malformed h
+pub returns : goal.returns
+returns c =
+    let r = c.read_parts.result in
+    let read = c.read_parts.ensures in
+    record {
+      surface = read.text;
+      in_range = read.in_range;
+      faultless = is_faultless c.args.bytes.now r read;
+      malformed = is_malformed c.args.bytes.now r read;
+      only = only_first c.args.bytes.now r read;
+      read = is_same c.args.bytes.now r read;
+      memory = is_memory c.args.bytes.now r read;
+    }

@@ -1,6 +1,6 @@
 use Rattle.std.proofs.Common.{FitsSigned, to_z-of_z, rules}
 use Rattle.std.specs.Int.{w128}
-use Rattle.sc_text.proofs.LineLaws.{told_is}
+use Rattle.sc_line.proofs.LineLaws.{told_is}
 use Rattle.sc_text.proofs.tables.entry.Goals as goal
 
 pub returns-clause-ok : goal.returns-clause-ok

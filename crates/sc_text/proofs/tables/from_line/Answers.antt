@@ -1,9 +1,9 @@
 use Rattle.std.proofs.Common.{◌≡◌, ◌∷◌, map, pos, codes}
 use Rattle.std.proofs.lemmas.Result.{IfOk-weaker}
 use Rattle.sc_whole.specs.Spelling.{spelling}
-use Rattle.sc_text.specs.Lines.{fields}
+use Rattle.sc_line.specs.Lines.{fields}
 use Rattle.sc_text.specs.TableLines.{entry_field, IsRowInRange}
-use Rattle.sc_text.proofs.LineLaws.{line_from_fields}
+use Rattle.sc_line.proofs.LineLaws.{line_from_fields}
 use Rattle.sc_text.proofs.tables.from_line.Goals as goal
 
 pub returns-clause-ok : goal.returns-clause-ok

@@ -1,9 +1,10 @@
 use Rattle.std.proofs.Common.{◌≡◌, ◌∙◌, ◌++◌, ℕ, List, [], ◌∷◌, codes, pos, rules, refl, sym, ap, subst}
 use Rattle.std.specs.List.{flat_map}
 use Rattle.sc_whole.specs.Spelling.{spelling}
-use Rattle.sc_text.specs.Printing.{AppendsPart}
+use Rattle.sc_line.specs.Printing.{AppendsPart}
 use Rattle.sc_text.specs.TableLines.{entry_field}
-use Rattle.sc_text.proofs.PrintLaws.{on_err, front_part, then_part, then_all, stopped, from_pieces}
+use Rattle.sc_line.proofs.PrintLaws.{on_err, front_part, then_part, then_all, stopped}
+use Rattle.sc_text.proofs.PieceLaws.{from_pieces}
 use Rattle.sc_text.proofs.tables.print_from_line.Goals as goal
 
 pub returns-in_err-print_entries-clause-err : goal.returns-in_err-print_entries-clause-err

@@ -1,13 +1,13 @@
 use Rattle.std.proofs.Common.{◌≡◌, ◌∙◌, false, pos, unsigned_abs, sym, ap, Some}
 use Rattle.std.proofs.lemmas.Result.{err_from_is_err_and, IfOk-weaker, IfErr-weaker}
 use Rattle.sc_fraction.specs.Frac.{numerator, denominator}
-use Rattle.sc_chain.specs.declared.fault.Kind.{Kind}
-use Rattle.sc_chain.specs.declared.fault.Kind.TheVariants as kinds
+use Rattle.sc_line.specs.declared.fault.Kind.{Kind}
+use Rattle.sc_line.specs.declared.fault.Kind.TheVariants as kinds
 use Rattle.sc_text.specs.declared.limits.TheConstants.{MAX_VALUE}
-use Rattle.sc_text.specs.Faults.{between}
+use Rattle.sc_line.specs.Faults.{between}
 use Rattle.sc_text.specs.ValueLines.{are_coprime}
 use Rattle.sc_fraction.specs.Quotient.{quotient_text}
-use Rattle.sc_text.proofs.LineLaws.{narrowed_is}
+use Rattle.sc_line.proofs.LineLaws.{narrowed_is}
 use Rattle.sc_text.proofs.ValueLaws.{value_in_range, field_is, no_denominator, fault_of_numbers, num_outside, den_outside, not_coprime}
 use Rattle.sc_text.proofs.values.fraction.Goals as goal
 

@@ -1,9 +1,9 @@
 use Rattle.std.proofs.Common.{◌≡◌, [], ◌∷◌, codes}
 use Rattle.std.proofs.lemmas.Result.{IfOk-weaker}
 use Rattle.sc_fraction.specs.Frac.{frac_text}
-use Rattle.sc_text.specs.Lines.{fields}
+use Rattle.sc_line.specs.Lines.{fields}
 use Rattle.sc_text.specs.ValueLines.{quotient_of, IsValueInRange}
-use Rattle.sc_text.proofs.LineLaws.{line_from_fields}
+use Rattle.sc_line.proofs.LineLaws.{line_from_fields}
 use Rattle.sc_text.proofs.values.value_line.Goals as goal
 
 pub returns-clause-ok : goal.returns-clause-ok

@@ -3,8 +3,8 @@ use Rattle.std.proofs.lemmas.Bool.{false≢true}
 use Rattle.std.proofs.lemmas.Result.{err_from_is_err_and}
 use Rattle.sc_theory.specs.Words.{IsReduced}
 use Rattle.sc_text.specs.Words.{IsWordInRange}
-use Rattle.sc_text.specs.Faults.{word_fault}
-use Rattle.sc_text.proofs.LineLaws.{narrowed_is}
+use Rattle.sc_text.specs.Words.{word_fault}
+use Rattle.sc_line.proofs.LineLaws.{narrowed_is}
 use Rattle.sc_text.proofs.WordLaws.{spells_word, letters_of, weighted_form, weighted_is, word_of_letters, letters_nonempty, length-letters_of, spelled_back, word_fault_weight, word_fault_room, word_fault_unreduced}
 use Rattle.sc_text.proofs.words.weighted_word.Goals as goal
 

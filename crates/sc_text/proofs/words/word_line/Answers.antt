@@ -1,14 +1,15 @@
 use Rattle.std.proofs.Common.{◌≡◌, ◌≤◌, ◌∙◌, ap, sym, subst, [], ◌∷◌, length, Option, Some, pos, codes}
 use Rattle.std.proofs.lemmas.Result.{IfOk-weaker, IfErr-weaker}
-use Rattle.sc_chain.specs.declared.fault.Kind.{Kind}
-use Rattle.sc_text.specs.declared.fault.LineFault.{LineFault}
+use Rattle.sc_line.specs.declared.fault.Kind.{Kind}
+use Rattle.sc_line.specs.declared.fault.LineFault.{LineFault}
 use Rattle.sc_whole.specs.Spelling.{spelling}
-use Rattle.sc_text.specs.Lines.{fields}
+use Rattle.sc_line.specs.Lines.{fields}
 use Rattle.sc_chain.specs.Spelling.{word_of}
 use Rattle.sc_text.specs.Words.{spelled, IsWordInRange}
-use Rattle.sc_text.specs.Faults.{named_fault, word_fields_fault, weighted_word_fault}
-use Rattle.sc_text.specs.LineFaults.{IsFault}
-use Rattle.sc_text.proofs.LineLaws.{taken_is, line_from_fields, named_is}
+use Rattle.sc_line.specs.Faults.{named_fault}
+use Rattle.sc_text.specs.Words.{word_fields_fault, weighted_word_fault}
+use Rattle.sc_line.specs.LineFaults.{IsFault}
+use Rattle.sc_line.proofs.LineLaws.{taken_is, line_from_fields, named_is}
 use Rattle.sc_text.proofs.words.word_line.Goals as goal
 
 pub returns-clause-ok : goal.returns-clause-ok

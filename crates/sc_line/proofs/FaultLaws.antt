@@ -1,0 +1,110 @@
+-- Laws of the first fault of a text.
+use Rattle.std.proofs.Common.{◌≡◌, ◌≢◌, ℕ, zero, suc, ◌+◌, ◌≤◌, List, [], ◌∷◌, ◌++◌, length, take, drop, Some, None, Result, Ok, Err, refl, sym, ap, subst, ◌∙◌, append_assoc, arith, inl, inr, ◌⊎◌}
+use Rattle.std.specs.Prelude.{OnOk, IfErr, IsErrAnd}
+use Rattle.std.proofs.lemmas.Bool.{cases_lt, cases_order}
+use Rattle.std.proofs.lemmas.List.{take_at, drop_at, drop_all, length_push}
+use Rattle.std.proofs.lemmas.Option.{none-some, same_Some}
+use Rattle.sc_line.specs.declared.fault.Kind.{Kind}
+use Rattle.sc_line.specs.declared.fault.TextFault.{TextFault}
+use Rattle.sc_line.specs.declared.fault.TextFault.TheVariants as text_faults
+use Rattle.sc_line.specs.Lines.{Line, parts}
+use Rattle.sc_line.specs.Faults.{Plan, part_fault, line_fault, fault_at, IsFirstFault, IsFaultless, IsFaultOf}
+use Rattle.sc_line.specs.declared.fault.LineFault.{LineFault}
+use Rattle.sc_line.specs.declared.fault.LineFault.TheVariants.{Malformed, Memory}
+use Rattle.sc_line.specs.LineFaults.{IsFault, at_line}
+
+-- the fault at the part after those that stand before it
+pub fault_at_part : (table : Plan) (text : List ℕ) (before rest : List Line) → parts text ≡ before ++ rest → fault_at table text (suc (length before)) ≡ part_fault table before rest
+fault_at_part table text before rest e =
+    let front : take (length before) (parts text) ≡ before = ap (take (length before)) e ∙ take_at before rest (length before) refl in
+    let back : drop (length before) (parts text) ≡ rest = ap (drop (length before)) e ∙ drop_at before rest (length before) refl in
+    ap (λ (b : List Line). part_fault table b (drop (length before) (parts text))) front ∙ ap (part_fault table before) back
+
+-- a part that others follow is a line
+pub ended_part : (table : Plan) (before : List Line) (line : Line) (rest : List Line) → rest ≢ [] → part_fault table before (line ∷ rest) ≡ line_fault table before line
+ended_part table before line [] h = absurd (h refl)
+ended_part table before line (next ∷ more) h = refl
+
+-- past the last part there is no fault
+pub fault_past : (table : Plan) (text : List ℕ) (i : ℕ) → length (parts text) ≤ i → fault_at table text (suc i) ≡ None
+fault_past table text i h = ap (part_fault table (take i (parts text))) (drop_all i (parts text) h)
+
+pub good_more : (table : Plan) (text : List ℕ) (n : ℕ) → ((i : ℕ) → i ≤ n → fault_at table text i ≡ None) → fault_at table text (suc n) ≡ None → (m : ℕ) → m ≡ n + 1 → (i : ℕ) → i ≤ m → fault_at table text i ≡ None
+good_more table text n below here m e i le =
+    elim (cases_lt n i) [
+      | inl above ↦ let same : suc n ≡ i = omega arith in subst (λ (k : ℕ). fault_at table text k ≡ None) same here
+      | inr within ↦ below i within
+    ]
+
+pub faultless_from : (table : Plan) (text : List ℕ) (n : ℕ) → ((i : ℕ) → i ≤ n → fault_at table text i ≡ None) → fault_at table text (suc n) ≡ None → length (parts text) ≤ n + 1 → IsFaultless table text
+faultless_from table text n below here len zero = refl
+faultless_from table text n below here len (suc i) =
+    elim (cases_lt (suc i) (n + 2)) [
+      | inl within ↦ good_more table text n below here (n + 1) refl (suc i) (omega arith)
+      | inr past ↦ fault_past table text i (omega arith)
+    ]
+
+-- no text has two first faults
+pub first_fault-unique : (table : Plan) (text : List ℕ) (l m : ℕ) (j k : Kind) → IsFirstFault table text l j → IsFirstFault table text m k → (l ≡ m) × (j ≡ k)
+first_fault-unique table text l m j k p q =
+    elim (cases_order l m) [
+      | inl same ↦ (same, same_Some j k (sym p.here ∙ ap (fault_at table text) same ∙ q.here))
+      | inr apart ↦ absurd (elim apart [
+        | inl less ↦ none-some j (sym (q.least l less) ∙ p.here)
+        | inr more ↦ none-some k (sym (p.least m more) ∙ q.here)
+      ])
+    ]
+
+pub faultless_first : (table : Plan) (text : List ℕ) (l : ℕ) (k : Kind) → IsFaultless table text → IsFirstFault table text l k → ⊥
+faultless_first table text l k good p = none-some k (sym (good l) ∙ p.here)
+
+-- ---- a reader that has read the lines before a part
+
+pub record HasRead (table : Plan) (text : List ℕ) (before rest : List Line) : Type 0 where
+  pub cut : parts text ≡ before ++ rest
+  pub good : (i : ℕ) → i ≤ length before → fault_at table text i ≡ None
+
+pub fault_of_line : (table : Plan) (text : List ℕ) (before : List Line) (line : Line) (after : List Line) → HasRead table text before (line ∷ after) → after ≢ [] → fault_at table text (suc (length before)) ≡ line_fault table before line
+fault_of_line table text before line after h some = fault_at_part table text before (line ∷ after) h.cut ∙ ended_part table before line after some
+
+pub first_fault_here : (table : Plan) (text : List ℕ) (before rest : List Line) (n : ℕ) (k : Kind) → HasRead table text before rest → n ≡ length before + 1 → part_fault table before rest ≡ Some k → IsFirstFault table text n k
+first_fault_here table text before rest n k h at e =
+    let next : suc (length before) ≡ n = omega arith in
+    record {
+      here = subst (λ (i : ℕ). fault_at table text i ≡ Some k) next (fault_at_part table text before rest h.cut ∙ e);
+      least = λ i lt. h.good i (omega arith);
+    }
+
+pub fault_at_line : (table : Plan) (text : List ℕ) (before : List Line) (line : Line) (after : List Line) (n : ℕ) (e : LineFault)
+    → HasRead table text before (line ∷ after) → after ≢ [] → n ≡ length before + 1 → IsFault (line_fault table before line) e → IsFaultOf table text (at_line n e)
+fault_at_line table text before line after n (Malformed k) h some at e = first_fault_here table text before (line ∷ after) n k h at (ended_part table before line after some ∙ e)
+fault_at_line table text before line after n Memory h some at e = tt
+
+pub read_nothing : (table : Plan) (text : List ℕ) → HasRead table text [] (parts text)
+read_nothing table text = record { cut = refl; good = λ i le. let none : 0 ≡ i = omega arith in subst (λ (k : ℕ). fault_at table text k ≡ None) none refl }
+
+pub read_more : (table : Plan) (text : List ℕ) (before now : List Line) (line : Line) (after : List Line)
+    → HasRead table text before (line ∷ after) → after ≢ [] → now ≡ before ++ line ∷ [] → line_fault table before line ≡ None → HasRead table text now after
+read_more table text before now line after h some new good =
+    let one : length now ≡ length before + 1 = ap length new ∙ length_push before line in
+    let here = fault_of_line table text before line after h some ∙ good in
+    record {
+      cut = h.cut ∙ sym (append_assoc before (line ∷ []) after) ∙ ap (λ (ls : List Line). ls ++ after) (sym new);
+      good = good_more table text (length before) h.good here (length now) one;
+    }
+
+pub read_all : (table : Plan) (text : List ℕ) (before : List Line) (rest : Line) → HasRead table text before (rest ∷ []) → part_fault table before (rest ∷ []) ≡ None → IsFaultless table text
+read_all table text before rest h good =
+    let here = fault_at_part table text before (rest ∷ []) h.cut ∙ good in
+    let len : length (parts text) ≤ length before + 1 = omega (arith, ap length h.cut, length_push before rest) in
+    faultless_from table text (length before) h.good here len
+
+-- ---- an answer of a reader
+
+pub answered : {X : Type 0} (table : Plan) (text : List ℕ) (l : ℕ) (k : Kind) (r : Result X TextFault) → OnOk r (IsFaultless table text) → IfErr r (IsFaultOf table text) → IsFirstFault table text l k
+    → IsErrAnd r (λ e. (e ≡ text_faults.Malformed l k) ⊎ (e ≡ text_faults.Memory))
+answered table text l k (Ok x) good bad h = faultless_first table text l k good h
+answered table text l k (Err (text_faults.Malformed m j)) good bad h =
+    let same = first_fault-unique table text m l j k bad h in
+    inl (λ i. text_faults.Malformed (same.0 i) (same.1 i))
+answered table text l k (Err text_faults.Memory) good bad h = inr refl
