@@ -1,0 +1,9 @@
+pub mod Keys
+pub mod OrderLaws
+pub mod FirstSeen
+pub mod WideLaws
+pub mod Exchanges
+pub mod Ratios
+pub mod StateLaws
+pub mod ToldLaws
+pub mod SolveLaws
