@@ -128,7 +128,7 @@ fn stop_fault<W: Weight>(
 
 /// A closed walk from the start and back to it whose total is below the threshold, if one is found. Else the rows of the
 /// search are those of the cheapest walks.
-fn closed_walk<W: Weight>(
+pub(crate) fn closed_walk<W: Weight>(
     alloc: Global,
     chain: &Chain,
     prices: &StepPrices<W>,
@@ -198,7 +198,7 @@ fn add_step<W: Weight>(
 }
 
 /// The total of a polygon.
-fn polygon_total<W: Weight>(
+pub(crate) fn polygon_total<W: Weight>(
     alloc: Global,
     chain: &Chain,
     prices: &StepPrices<W>,
@@ -240,7 +240,7 @@ fn first_below<W: Weight>(
 }
 
 /// A polygon below the threshold among those of a closed walk below it.
-fn cheap_of<W: Weight>(
+pub(crate) fn cheap_of<W: Weight>(
     alloc: Global,
     chain: &Chain,
     prices: &StepPrices<W>,
