@@ -1,7 +1,6 @@
 -- What the parts of one exchange say together.
-use Rattle.std.specs.Prelude.{◌≡◌, ◌≢◌, ℕ, suc, ◌<◌, List, length, ℤ, pos, ◌*ℤ◌, ◌<ℤ◌, Result, Ok}
-use Rattle.std.proofs.Common.{refl, sym, ap, ap₂, subst, ◌∙◌}
-use Rattle.sc_basis.specs.Products.{dot}
+use Rattle.std.specs.Prelude.{◌≡◌, ℕ, ◌<◌, List, length, ℤ, pos, ◌*ℤ◌, ◌<ℤ◌, Result, Ok}
+use Rattle.std.proofs.Common.{sym, ap, subst, ◌∙◌}
 use Rattle.sc_basis.specs.Bases.{Column as Entries, Basis}
 use Rattle.sc_basis.specs.Standing.{Stands}
 use Rattle.sc_basis.specs.Lines.{line}

@@ -1,7 +1,7 @@
 -- What the place of a key among the keys of a map says of the columns.
-use Rattle.std.proofs.Common.{◌≡◌, ℕ, ◌+◌, ◌<◌, ◌≤◌, Bool, true, false, cond, not, nat_lt, ltb, List, [], ◌∷◌, ◌++◌, map, length, get_or, slice_get, position, Option, None, Some, refl, sym, ap, ap₂, ◌∙◌, subst, inl, inr, arith, true≢false, eqb, zero, suc, IfSome, IfNone}
+use Rattle.std.proofs.Common.{◌≡◌, ℕ, ◌<◌, Bool, false, cond, not, List, [], ◌∷◌, ◌++◌, map, length, get_or, slice_get, position, Option, None, Some, refl, sym, ap, ap₂, ◌∙◌, inl, inr, arith, true≢false, eqb, zero, suc, IfSome, IfNone}
 use Rattle.std.specs.declared.vec.Vec.{Vec}
-use Rattle.std.specs.List.{IsDistinct, AllZip, position_or_len, prefix_len}
+use Rattle.std.specs.List.{IsDistinct, AllZip, position_or_len}
 use Rattle.std.specs.Bool.{Decides}
 use Rattle.std.specs.Map.{keys_of, values_of, lookup}
 use Rattle.std.specs.Option.{option_map}

@@ -1,16 +1,15 @@
 -- Orders of entries, of lists, and of rows by their lists.
-use Rattle.std.specs.Prelude.{◌≡◌, ◌≢◌, ℕ, zero, suc, ◌+◌, ◌<◌, List, length, Option, None, Some, ℤ, pos, ◌*ℤ◌, ◌≤ℤ◌, ◌<ℤ◌}
+use Rattle.std.specs.Prelude.{◌≡◌, ℕ, zero, suc, ◌<◌, List, length, Option, None, Some, ℤ, pos, ◌*ℤ◌, ◌≤ℤ◌, ◌<ℤ◌}
 use Rattle.std.specs.Ordering.{int_cmp}
 use Rattle.std.specs.declared.cmp.Ordering.{Ordering}
 use Rattle.std.specs.declared.cmp.Ordering.TheVariants.{Less, Equal, Greater}
-use Rattle.std.proofs.Common.{arith, refl, sym, ap, subst, ◌∙◌}
+use Rattle.std.proofs.Common.{arith, refl, sym, ap, ◌∙◌}
 use Rattle.std.proofs.Math.Path.{subst₂}
 use Rattle.std.proofs.lemmas.Cmp.{int_ranked}
 use Rattle.std.proofs.lemmas.Int.{ints}
 use Rattle.sc_algebra.proofs.Ints.{mul_comm, mul-zero}
 use Rattle.sc_basis.specs.Products.{dot}
 use Rattle.sc_basis.specs.Lines.{LexLess, line}
-use Rattle.sc_basis.specs.LeastRows.{Precedes, IsLeastRow}
 use Rattle.sc_basis.proofs.LexOrder.{lex_map}
 use Rattle.sc_basis.proofs.RowOrder.{least_first, none_more, least_kept, least_taken}
 use Rattle.sc_rows.specs.Lines.{Line, row_of}

@@ -1,7 +1,6 @@
 -- A quotient over a positive number never turns, so it is never refused.
-use Rattle.std.specs.Prelude.{◌≡◌, ◌↔◌, ℕ, Bool, false, ℤ, pos, negsuc, ◌<ℤ◌, int_div, int_lt, unsigned_abs, neg_ℤ, List, [], ◌∷◌, if◌then◌else◌, Result, Ok, Err, IfErr}
-use Rattle.std.specs.Int.{IsGcd}
-use Rattle.std.proofs.Common.{arith, refl, sym, ap, subst}
+use Rattle.std.specs.Prelude.{◌≡◌, ◌↔◌, Bool, false, ℤ, pos, negsuc, ◌<ℤ◌, int_div, int_lt, unsigned_abs, [], ◌∷◌, if◌then◌else◌, Result, Ok, Err, IfErr}
+use Rattle.std.proofs.Common.{arith, refl, subst}
 use Rattle.std.proofs.lemmas.Int.{ints}
 use Rattle.sc_whole.specs.Operation.{step, IsFirstWide}
 use Rattle.sc_whole.specs.declared.checked.Op.TheVariants.{Sub}

@@ -1,16 +1,15 @@
 -- From the state in which the solver ends to what it answers.
-use Rattle.std.specs.Prelude.{◌≡◌, ◌⊎◌, ℕ, zero, suc, ◌<◌, ◌≤◌, true, false, List, [], ◌∷◌, map, length, get_or, slice_get, Option, Some, None, Result, Ok, Err, OnOk, ℤ, pos, ◌*ℤ◌, ◌≤ℤ◌, ◌<ℤ◌}
+use Rattle.std.specs.Prelude.{◌≡◌, ℕ, suc, ◌<◌, ◌≤◌, true, false, List, [], ◌∷◌, map, length, get_or, slice_get, Option, Some, None, Result, Ok, Err, OnOk, ℤ, pos, ◌*ℤ◌, ◌≤ℤ◌, ◌<ℤ◌}
 use Rattle.std.specs.List.{AllByRecursion}
 use Rattle.std.specs.Option.{option_map}
 use Rattle.std.specs.Vec.{vec_items}
-use Rattle.std.proofs.Common.{arith, refl, sym, ap, ap₂, subst, ◌∙◌, inl, inr, true≢false}
+use Rattle.std.proofs.Common.{refl, sym, ap, subst, ◌∙◌, inl, inr, true≢false}
 use Rattle.std.proofs.Math.Path.{subst₂}
-use Rattle.std.proofs.lemmas.Int.{ints}
 use Rattle.std.proofs.lemmas.List.{get_or-replicate}
 use Rattle.std.proofs.lemmas.Option.{none-some, slice_get_within}
 use Rattle.sc_algebra.proofs.Ints.{mul_comm, mul-zero, zero-mul}
 use Rattle.sc_basis.specs.Products.{dot, IsNonNegative}
-use Rattle.sc_basis.specs.Bases.{Column as Entries, Basis, item, unit_basis}
+use Rattle.sc_basis.specs.Bases.{Column as Entries, unit_basis}
 use Rattle.sc_basis.specs.Standing.{BasisNumbers, Stands}
 use Rattle.sc_basis.specs.Pivots.{Improves}
 use Rattle.sc_basis.specs.Journals.{Journal, IsJournal, IsReached}
@@ -43,7 +42,7 @@ use Rattle.sc_simplex.specs.declared.state.State.{State}
 use Rattle.sc_simplex.specs.Columns.{key_of}
 use Rattle.sc_simplex.specs.Evidence.{IsWideSomeValue, IsWideFor, IsWideTold, speaks_of_column}
 use Rattle.sc_simplex.specs.NamedJournals.{AreNamed, RisesAlong, IsLawfulBy, basis_of, first_seen, pivot_key}
-use Rattle.sc_simplex.specs.Optima.{IsItem, AreColumns, AreItems, AreValues, no_item, IsOptimum, IsUsedUp, IsShownAfter, IsWideAfter, IsStopped, IsSumOfColumns}
+use Rattle.sc_simplex.specs.Optima.{IsItem, AreColumns, AreItems, AreValues, no_item, IsOptimum, IsUsedUp, IsWideAfter, IsStopped, IsSumOfColumns}
 use Rattle.sc_simplex.specs.Oracles.{ColumnsBy, ShownBy, ImprovesAt, NoneImproves, IsShown}
 use Rattle.sc_simplex.specs.States.{IsState}
 use Rattle.sc_simplex.specs.Stops.{IsStopBy, IsStopByOracle, IsMadeOf}

@@ -1,15 +1,15 @@
 -- The state after one more pivot, and what it needs to be pivoted.
-use Rattle.std.specs.Prelude.{◌≡◌, ◌≢◌, ◌⊎◌, ℕ, zero, suc, ◌+◌, ◌<◌, ◌≤◌, List, [], ◌∷◌, ◌++◌, length, map, get_or, set, slice_get, Option, Some, None, ℤ, pos, ◌≤ℤ◌, ◌<ℤ◌}
+use Rattle.std.specs.Prelude.{◌≡◌, ℕ, zero, suc, ◌<◌, ◌≤◌, List, [], ◌∷◌, ◌++◌, length, map, get_or, set, slice_get, Option, Some, None, ℤ, pos, ◌≤ℤ◌, ◌<ℤ◌}
 use Rattle.std.proofs.Common.{arith, refl, sym, ap, ap₂, subst, ◌∙◌, inl, inr}
 use Rattle.std.proofs.lemmas.Int.{ints}
 use Rattle.std.proofs.lemmas.Bool.{cases_eq, cases_lt}
 use Rattle.std.proofs.lemmas.List.{length-set, get_or-set_same, get_or-set_other, get_or_past, get_or-replicate, length-replicate, length-map, map-append}
-use Rattle.std.proofs.lemmas.Option.{slice_get-map, none-some, same_Some}
+use Rattle.std.proofs.lemmas.Option.{none-some, same_Some}
 use Rattle.sc_basis.specs.Products.{dot, IsNonNegative}
 use Rattle.sc_basis.specs.Bases.{Column as Entries, entry_of, Basis, item, unit_basis}
 use Rattle.sc_basis.specs.Standing.{Stands}
-use Rattle.sc_basis.specs.Pivots.{Pivot, IsLawful, IsLeaving, after_pivot, along}
-use Rattle.sc_basis.specs.Journals.{Journal, IsJournal, basis_after}
+use Rattle.sc_basis.specs.Pivots.{Pivot, IsLawful, IsLeaving, after_pivot}
+use Rattle.sc_basis.specs.Journals.{Journal, basis_after}
 use Rattle.sc_basis.proofs.JournalLaws.{lawful_joined, after_joined, journal_reached}
 use Rattle.sc_basis.proofs.BoundedColumns.{bounded_column}
 use Rattle.sc_rows.specs.Lines.{Line}

@@ -1,29 +1,26 @@
 -- The refusals of rows and prices as evidence for the numbers of a basis.
-use Rattle.std.specs.Prelude.{◌≡◌, ◌≢◌, ◌⊎◌, ℕ, ◌<◌, List, length, Option, Some, None, is_some, ℤ, pos, ◌-ℤ◌, ◌+ℤ◌, ◌*ℤ◌, ◌<ℤ◌, FitsSigned}
+use Rattle.std.specs.Prelude.{◌≡◌, ℕ, ◌<◌, List, length, Option, is_some, ℤ, pos, ◌*ℤ◌, ◌<ℤ◌, FitsSigned}
 use Rattle.std.specs.Int.{w128}
 use Rattle.std.proofs.Common.{arith, refl, sym, ap, ap₂, subst, ◌∙◌, inl, inr}
-use Rattle.std.proofs.lemmas.Int.{ints}
-use Rattle.sc_weight.specs.declared.level.Level.{Level}
 use Rattle.sc_weight.specs.declared.level.Level.TheVariants.{Bulk, Fine}
 use Rattle.sc_whole.specs.Operation.{step, StepFits}
 use Rattle.sc_whole.specs.declared.checked.Op.{Op}
 use Rattle.sc_algebra.proofs.Ints.{mul_comm, mul_left_comm}
-use Rattle.sc_basis.specs.Products.{at, dot, before, IsReduced}
+use Rattle.sc_basis.specs.Products.{IsReduced}
 use Rattle.sc_basis.specs.Rules.{IsLowest}
-use Rattle.sc_basis.specs.Bases.{Column as Entries, entry_of}
+use Rattle.sc_basis.specs.Bases.{Column as Entries}
 use Rattle.sc_basis.specs.Standing.{BasisNumbers}
 use Rattle.sc_basis.specs.Pivots.{Improves, along, gap, IsLeaving, IsRatio}
-use Rattle.sc_basis.specs.Evidence.{PriceLevel, bulk_level, fine_level, prices_at, scale_at, column_cost, Place, along_product, along_sum, value_product, value_sum, row_left, row_right, row_difference, row_scale, gap_product, gap_sum, gap_difference, price_left, price_right, price_sum, price_scale, result_at, needs_leaving, NewLeft, RowStep, PriceStep, Operands, row_or_first}
+use Rattle.sc_basis.specs.Evidence.{PriceLevel, bulk_level, fine_level, prices_at, scale_at, column_cost, Place, along_product, along_sum, value_product, value_sum, row_left, row_right, row_difference, row_scale, gap_product, gap_sum, gap_difference, price_left, price_right, price_sum, price_scale, result_at, needs_leaving, RowStep, PriceStep, Operands, row_or_first}
 use Rattle.sc_basis.proofs.Numbers.{pos_of_mul}
-use Rattle.sc_rows.specs.Lines.{Line, row_of, den_of}
-use Rattle.sc_rows.specs.Standing.{entries_of, numbers_of, cost_at, gap_at}
+use Rattle.sc_rows.specs.Lines.{Line, row_of}
+use Rattle.sc_rows.specs.Standing.{entries_of, numbers_of}
 use Rattle.sc_rows.specs.Places.{spot, IsWide}
-use Rattle.sc_rows.specs.Evidence.{IsWideAlong, IsWideValue, OverProduct, IsWidePivot, IsWideGap, IsWidePrices, IsWidePricePivot}
+use Rattle.sc_rows.specs.Evidence.{IsWideAlong, IsWidePivot, IsWideGap, IsWidePrices, IsWidePricePivot}
 use Rattle.sc_rows.specs.declared.fault.Place.{Place as Named}
 use Rattle.sc_rows.specs.declared.fault.WideAt.{WideAt}
-use Rattle.sc_rows.specs.declared.prices.PriceRow.{PriceRow}
 use Rattle.sc_rows.specs.declared.prices.PriceRows.{PriceRows}
-use Rattle.sc_simplex.specs.WideOperations.{level_of, name_of, indices_of, op_of, TellsPlace}
+use Rattle.sc_simplex.specs.WideOperations.{name_of, indices_of, op_of}
 use Rattle.sc_simplex.specs.Evidence.{IsWideSomeValue, IsWideFor}
 
 -- an operation at a spot as one at a place

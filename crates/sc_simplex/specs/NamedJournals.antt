@@ -1,7 +1,7 @@
 -- Journals that name the entering columns by their keys.
-use Rattle.std.specs.Prelude.{◌≡◌, ℕ, ◌<◌, ◌≤◌, Bool, not, ◌==◌, List, [], ◌∷◌, map, filter, length, take, ℤ}
+use Rattle.std.specs.Prelude.{◌≡◌, ℕ, ◌<◌, ◌≤◌, Bool, not, ◌==◌, List, [], ◌∷◌, filter, length, take, ℤ}
 use Rattle.std.specs.Cmp.Lexicographic.{pointwise}
-use Rattle.sc_basis.specs.Bases.{Column as Entries, Basis, unit_basis}
+use Rattle.sc_basis.specs.Bases.{Basis, unit_basis}
 use Rattle.sc_basis.specs.Standing.{BasisNumbers, Stands}
 use Rattle.sc_basis.specs.Journals.{Journal, IsJournal, basis_after}
 use Rattle.sc_basis.specs.Values.{Rises}

@@ -1,6 +1,5 @@
 -- What `solve` answers.
-use Rattle.std.specs.Prelude.{◌≡◌, ◌⊎◌, ℕ, ◌<◌, ◌≤◌, List, map, length, get_or, slice_get, Option, Some, None, ℤ, pos, ◌≤ℤ◌, ◌<ℤ◌}
-use Rattle.sc_basis.specs.Products.{dot}
+use Rattle.std.specs.Prelude.{◌≡◌, ◌⊎◌, ℕ, ◌<◌, ◌≤◌, List, map, length, get_or, slice_get, Option, Some, None, ℤ, pos, ◌≤ℤ◌}
 use Rattle.sc_basis.specs.Bases.{Column as Entries, item}
 use Rattle.sc_basis.specs.Standing.{BasisNumbers, Stands}
 use Rattle.sc_basis.specs.Journals.{Journal}

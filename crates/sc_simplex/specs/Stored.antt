@@ -1,5 +1,5 @@
 -- How columns are stored: in a map in the order of insertion, each under its own key.
-use Rattle.std.specs.Prelude.{◌≡◌, ℕ, List, map}
+use Rattle.std.specs.Prelude.{◌≡◌, ℕ, map}
 use Rattle.std.specs.Vec.{vec_items}
 use Rattle.std.specs.HashMap.{HashMap, keys, values}
 use Rattle.std.specs.declared.vec.Vec.{Vec}

@@ -1,4 +1,4 @@
-use Rattle.std.proofs.Common.{◌≡◌, ◌∙◌, ℕ, length, pos, ◌<ℤ◌, Option, Some, FitsSigned, to_z, of_z, to_z-of_z, add-one, sym, subst, rules}
+use Rattle.std.proofs.Common.{◌≡◌, ◌∙◌, ℕ, length, pos, ◌<ℤ◌, Option, FitsSigned, to_z, of_z, to_z-of_z, add-one, sym, subst, rules}
 use Rattle.std.specs.Int.{w128}
 use Rattle.sc_basis.specs.Products.{at, dot}
 use Rattle.sc_rows.specs.Lines.{row_of}

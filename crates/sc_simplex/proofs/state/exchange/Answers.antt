@@ -1,4 +1,4 @@
-use Rattle.std.proofs.Common.{◌≡◌, ◌∙◌, ℕ, ◌<◌, List, length, ℤ, Option, Some, ap, subst}
+use Rattle.std.proofs.Common.{◌∙◌, ℕ, List, length, ℤ, Option, ap, subst}
 use Rattle.std.proofs.lemmas.Result.{err_from_is_err_and}
 use Rattle.sc_basis.specs.Products.{at}
 use Rattle.sc_basis.proofs.RowOrder.{leaves_from_least}

@@ -1,4 +1,4 @@
-use Rattle.std.proofs.Common.{◌≡◌, refl, length}
+use Rattle.std.proofs.Common.{refl, length}
 use Rattle.sc_simplex.proofs.Keys.{same_from_clones}
 use Rattle.sc_simplex.proofs.Exchanges.{same_ok}
 use Rattle.sc_simplex.proofs.state.note.Goals as goal

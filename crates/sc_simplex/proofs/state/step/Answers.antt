@@ -1,4 +1,4 @@
-use Rattle.std.proofs.Common.{◌≡◌, ℕ, length, ℤ, pos, ◌≤ℤ◌, Some, true, false, inl, inr, refl, sym, subst, arith}
+use Rattle.std.proofs.Common.{ℕ, length, pos, ◌≤ℤ◌, Some, inl, inr, refl, sym, subst, arith}
 use Rattle.std.proofs.lemmas.Bool.{cases_Bool}
 use Rattle.sc_basis.specs.Products.{at, dot}
 use Rattle.sc_basis.specs.Bases.{entry_of}

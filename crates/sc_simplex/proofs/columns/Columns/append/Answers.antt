@@ -1,7 +1,6 @@
-use Rattle.std.proofs.Common.{◌≡◌, ◌∙◌, ℕ, List, ◌++◌, ◌∷◌, [], ap, sym, map, Some, slice_get, eqb}
+use Rattle.std.proofs.Common.{◌∙◌, ℕ, List, ◌++◌, ◌∷◌, [], ap, sym, map, slice_get, eqb}
 use Rattle.std.specs.Cmp.Lexicographic.{pointwise}
 use Rattle.std.specs.Vec.{vec_items}
-use Rattle.std.specs.HashMap.{keys}
 use Rattle.indexmap.proofs.CallerLemmas.{insert_entry-new}
 use Rattle.sc_simplex.specs.Columns.{key_of}
 use Rattle.sc_simplex.proofs.Keys.{lookup_missing, decides_keys, same_from_clones, values_more, own_keys_more}

@@ -1,4 +1,4 @@
-use Rattle.std.proofs.Common.{◌≡◌, ◌∙◌, ap, map}
+use Rattle.std.proofs.Common.{◌∙◌, ap, map}
 use Rattle.std.specs.Vec.{vec_items}
 use Rattle.std.specs.HashMap.{keys}
 use Rattle.sc_simplex.specs.Columns.{key_of}
