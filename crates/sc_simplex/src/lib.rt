@@ -7,6 +7,8 @@ mod leaving;
 mod oracle;
 mod solving;
 mod state;
+#[cfg(test)]
+mod tests;
 mod values;
 
 pub use column::{Column, Item, KeyPivot};
