@@ -1,0 +1,5 @@
+use Rattle.sc_shape.specs.Tables.{AreTallies, is_own}
+use Rattle.sc_shape.proofs.tallies.tally_inner.Given as goal
+
+abbrev pub invariant-loop-number : goal.invariant-loop-number
+invariant-loop-number l = AreTallies (is_own l.inner) l.least l.number l.counts
