@@ -1,0 +1,10 @@
+pub mod ColumnTotals
+pub mod Counting
+pub mod Sizes
+pub mod PolygonPrices
+pub mod LiftLaws
+pub mod SearchLaws
+pub mod StepPriceLaws
+pub mod Feasible
+pub mod PairRows
+pub mod LiftedRows
