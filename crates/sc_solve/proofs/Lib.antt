@@ -8,3 +8,6 @@ pub mod StepPriceLaws
 pub mod Feasible
 pub mod PairRows
 pub mod LiftedRows
+pub mod ListSizes
+pub mod ListTotals
+pub mod ListRows

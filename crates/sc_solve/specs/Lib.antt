@@ -6,3 +6,5 @@ pub mod Lifts
 pub mod Oracles
 pub mod EntryLaws
 pub mod OracleLaws
+pub mod ListSteps
+pub mod ListTables
