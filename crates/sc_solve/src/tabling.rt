@@ -132,3 +132,6 @@ pub fn tables_of(
     let tables = rows_of(alloc, &distances, positions as u32)?;
     Ok(tables)
 }
+
+#[cfg(test)]
+mod tests;
