@@ -46,5 +46,5 @@ own_status Surface input text s a (inl long) = absurd (omega (arith, a.0, long.0
 own_status Surface input text s a (inr r) = own_of_surface input text s a.1 r.1
 own_status Check input text s a (inl long) = absurd (omega (arith, a.0, long.0))
 own_status Check input text s a (inr r) = own_of_check input text s a.1 r.1
-own_status Scl input text s a (inl long) = absurd (omega (arith, a.0, long.0))
-own_status Scl input text s a (inr r) = own_of_scl input text s a.1 r.1
+own_status (Scl pivots) input text s a (inl long) = absurd (omega (arith, a.0, long.0))
+own_status (Scl pivots) input text s a (inr r) = own_of_scl input text s a.1 r.1

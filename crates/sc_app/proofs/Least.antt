@@ -51,14 +51,14 @@ least_answer : (input text : List ℕ) → AnswersTo Check input Done text → S
 least_answer input text (inl a) = absurd (cc a.1)
 least_answer input text (inr a) = shows_least input text a.1
 
-infinite_answer : (input text : List ℕ) → AnswersTo Scl input Done text → ShowsInfinite input text
-infinite_answer input text (inl a) = absurd (cc a.1)
-infinite_answer input text (inr a) = shows_infinite input text a.1
+infinite_answer : (n : ℕ) (input text : List ℕ) → AnswersTo (Scl n) input Done text → ShowsInfinite input text
+infinite_answer n input text (inl a) = absurd (cc a.1)
+infinite_answer n input text (inr a) = shows_infinite input text a.1
 
 pub least : (left old new : Option (List ℕ)) → Delivers Check left old new Done → IfSome left (λ input. (text : List ℕ) × ShowsLeast input text × Took old new text)
 least None old new d = tt
 least (Some input) old new d = (d.0, least_answer input d.0 d.1, d.2)
 
-pub infinite : (left old new : Option (List ℕ)) → Delivers Scl left old new Done → IfSome left (λ input. (text : List ℕ) × ShowsInfinite input text × Took old new text)
-infinite None old new d = tt
-infinite (Some input) old new d = (d.0, infinite_answer input d.0 d.1, d.2)
+pub infinite : (n : ℕ) (left old new : Option (List ℕ)) → Delivers (Scl n) left old new Done → IfSome left (λ input. (text : List ℕ) × ShowsInfinite input text × Took old new text)
+infinite n None old new d = tt
+infinite n (Some input) old new d = (d.0, infinite_answer n input d.0 d.1, d.2)

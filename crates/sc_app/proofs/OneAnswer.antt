@@ -163,7 +163,7 @@ one_scl_status input s s' (inr a) (inr b) =
 one_response : (c : Command) (input text text' : List ℕ) (s s' : Status) → IsDetermined c input → Responds c input s text → Responds c input s' text' → s ≡ s'
 one_response Surface input text text' s s' one r r' = one_surface_status input s s' (surface_cause input text s r) (surface_cause input text' s' r')
 one_response Check input text text' s s' one r r' = one_check_status input s s' (check_cause input text s r) (check_cause input text' s' r')
-one_response Scl input text text' s s' one r r' = one_scl_status input s s' (scl_cause input text s r) (scl_cause input text' s' r')
+one_response (Scl pivots) input text text' s s' one r r' = one_scl_status input s s' (scl_cause input text s r) (scl_cause input text' s' r')
 
 one_of_reading : (reading : Reading) (c : Command) (input text text' : List ℕ) (s s' : Status) → DeterminedBy reading c input → RespondsBy reading c input s text → RespondsBy reading c input s' text' → s ≡ s'
 one_of_reading Nothing c input text text' s s' one a b = one_response c [] text text' s s' one a b

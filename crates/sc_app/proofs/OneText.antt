@@ -85,7 +85,7 @@ scl_text input text text' _ r r' = absurd r.3
 response_text : (c : Command) (input text text' : List ℕ) (s : Status) → IsDetermined c input → Responds c input s text → Responds c input s text' → text ≡ text'
 response_text Surface input text text' s one r r' = surface_text input text text' s r r'
 response_text Check input text text' s one r r' = check_text input text text' s r r'
-response_text Scl input text text' s one r r' = scl_text input text text' s r r'
+response_text (Scl pivots) input text text' s one r r' = scl_text input text text' s r r'
 
 pub one_text : (reading : Reading) (c : Command) (input text text' : List ℕ) (s : Status) → DeterminedBy reading c input → RespondsBy reading c input s text → RespondsBy reading c input s text' → text ≡ text'
 one_text Nothing c input text text' s one a b = response_text c [] text text' s one a b

@@ -51,7 +51,7 @@ scl_suits input text _ r = absurd r.3
 suits : (c : Command) (input text : List ℕ) (s : Status) → Responds c input s text → Suits (kind_of s) text
 suits Surface input text s r = surface_suits input text s r
 suits Check input text s r = check_suits input text s r
-suits Scl input text s r = scl_suits input text s r
+suits (Scl pivots) input text s r = scl_suits input text s r
 
 -- ---- so a command ends
 

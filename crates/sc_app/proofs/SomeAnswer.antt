@@ -314,7 +314,7 @@ frac_exists z m some =
 answered : (c : Command) (input : List ℕ) → ((s : Status) (text : List ℕ) → ¬ Responds c input s text) → ⊥
 answered Surface input none = surface_answered input none (λ z n some. frac_exists z (2 * n) (omega (arith, some)))
 answered Check input none = check_answered input none
-answered Scl input none = scl_answered input none
+answered (Scl pivots) input none = scl_answered input none
 
 pub some_answer : (c : Command) (input : List ℕ) → ((s : Status) (text : List ℕ) → ¬ AnswersTo c input s text) → ⊥
 some_answer c input none = by_reading (reads c) none

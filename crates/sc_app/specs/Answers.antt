@@ -20,7 +20,7 @@ use Rattle.sc_app.specs.Scl.{SclResponds, SclAccepts, IsSclStatus}
 abbrev pub Responds : Command → List ℕ → Status → List ℕ → Type 0
 Responds Surface input status text = SurfaceResponds input status text
 Responds Check input status text = CheckResponds input status text
-Responds Scl input status text = SclResponds input status text
+Responds (Scl pivots) input status text = SclResponds input status text
 
 -- the same for any input, by what the command reads: one that reads nothing has the empty input
 abbrev pub RespondsBy : Reading → Command → List ℕ → Status → List ℕ → Type 0
@@ -43,7 +43,7 @@ Answers words input status text = (c : Command) × IsForm c words × AnswersTo c
 abbrev pub IsDetermined : Command → List ℕ → Type 0
 IsDetermined Surface input = Unit {0}
 IsDetermined Check input = Unit {0}
-IsDetermined Scl input = Unit {0}
+IsDetermined (Scl pivots) input = Unit {0}
 
 -- the same for any input, by what the command reads
 abbrev pub DeterminedBy : Reading → Command → List ℕ → Type 0
@@ -58,7 +58,7 @@ HasOneAnswer words input = (c : Command) → IsForm c words → DeterminedBy (re
 abbrev pub Allows : Command → List ℕ → Type 0
 Allows Surface input = SurfaceAccepts input
 Allows Check input = CheckAccepts input
-Allows Scl input = SclAccepts input
+Allows (Scl pivots) input = SclAccepts input
 
 -- the same for any input, by what the command reads
 abbrev pub AllowsBy : Reading → Command → List ℕ → Type 0
@@ -72,7 +72,7 @@ IsAccepted c input = AllowsBy (reads c) c input
 abbrev pub IsOwnStatus : Command → Status → Type 0
 IsOwnStatus Surface status = IsSurfaceStatus status
 IsOwnStatus Check status = IsCheckStatus status
-IsOwnStatus Scl status = IsSclStatus status
+IsOwnStatus (Scl pivots) status = IsSclStatus status
 
 -- an answer of the command's own to the input came, and `out` took its text
 abbrev pub IsOwnAnswer : Command → List ℕ → Option (List ℕ) → Option (List ℕ) → Status → Type 0

@@ -1,9 +1,15 @@
 -- The forms of the command line.
-use Rattle.std.specs.Prelude.{◌≡◌, ℕ, if◌then◌else◌, List, [], ◌∷◌, map, codes, String, string_bytes, Option, None, Some}
+use Rattle.std.specs.Prelude.{◌≡◌, ◌⊎◌, ℕ, ◌≤◌, ◌&&◌, if◌then◌else◌, List, [], ◌∷◌, map, codes, String, string_bytes, Option, None, Some, ℤ, pos}
+use Rattle.std.specs.Option.{option_map}
 use Rattle.std.specs.Str.{bytes_eq}
 use Rattle.std.specs.declared.alloc.Global.{Global}
+use Rattle.sc_whole.specs.Spelling.{spelling}
+use Rattle.sc_line.specs.Lines.{number_of, natural}
+use Rattle.sc_line.specs.Faults.{between}
+use Rattle.sc_text.specs.declared.limits.TheConstants.{MAX_PIVOTS}
 use Rattle.sc_app.specs.declared.command.Command.{Command}
 use Rattle.sc_app.specs.declared.command.Command.TheVariants.{Surface, Check, Scl}
+use Rattle.sc_app.specs.declared.limits.TheConstants.{DEFAULT_PIVOTS}
 
 -- the words as bytes
 abbrev pub bytes_of : List (String Global) → List (List ℕ)
@@ -14,14 +20,30 @@ abbrev pub named : List ℕ → Option Command
 named word =
     if bytes_eq word (codes "surface") then Some Surface
     else if bytes_eq word (codes "check") then Some Check
-    else if bytes_eq word (codes "scl") then Some Scl
+    else if bytes_eq word (codes "scl") then Some (Scl DEFAULT_PIVOTS)
     else None
 
--- the command that the words are the form of, where they are one: a form with numbers is a case more
+-- a number of pivots, from 1 to the most
+abbrev pub pivots_in : Option ℤ → Option ℕ
+pivots_in None = None
+pivots_in (Some z) = if between 1 MAX_PIVOTS z then Some (natural (Some z)) else None
+
+-- the number of pivots that a word spells
+abbrev pub pivots_of : List ℕ → Option ℕ
+pivots_of word = pivots_in (number_of word)
+
+-- the command of a word, an option and its number
+abbrev pub named_with : List ℕ → List ℕ → List ℕ → Option Command
+named_with word option number =
+    if bytes_eq word (codes "scl") && bytes_eq option (codes "--pivots") then option_map Scl (pivots_of number) else None
+
+-- the command that the words are the form of, where they are one
 abbrev pub form : List (List ℕ) → Option Command
 form [] = None
 form (word ∷ []) = named word
-form (word ∷ second ∷ others) = None
+form (word ∷ option ∷ []) = None
+form (word ∷ option ∷ number ∷ []) = named_with word option number
+form (word ∷ option ∷ number ∷ other ∷ others) = None
 
 -- the words are the form of the command
 abbrev pub IsForm : Command → List (List ℕ) → Type 0
@@ -30,3 +52,9 @@ IsForm c words = form words ≡ Some c
 -- the words are no form
 abbrev pub HasNoForm : List (List ℕ) → Type 0
 HasNoForm words = form words ≡ None
+
+-- the word `scl` alone, which allows the default number of pivots, or with a number from 1 to the most in its one spelling
+abbrev pub AreWordsOfScl : ℕ → List (List ℕ) → Type 0
+AreWordsOfScl n words =
+    ((words ≡ codes "scl" ∷ []) × (n ≡ DEFAULT_PIVOTS))
+    ⊎ ((words ≡ codes "scl" ∷ codes "--pivots" ∷ spelling (pos n) ∷ []) × (1 ≤ n) × (n ≤ MAX_PIVOTS))

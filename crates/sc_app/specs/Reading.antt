@@ -13,7 +13,7 @@ use Rattle.sc_app.specs.Forms.{form}
 abbrev pub reads : Command → Reading
 reads Surface = AtMost MAX_TEXT_BYTES
 reads Check = AtMost MAX_TEXT_BYTES
-reads Scl = AtMost MAX_CHAIN_BYTES
+reads (Scl pivots) = AtMost MAX_CHAIN_BYTES
 
 -- the most bytes that are read, short of one too many
 abbrev pub most_bytes : Reading → ℕ

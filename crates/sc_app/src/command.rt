@@ -1,10 +1,12 @@
 //! The words of the command line, and what each command reads.
 
 ghost use Rattle.std.specs.Prelude.{◌≡◌};
-ghost use Rattle.sc_app.specs.Forms.{bytes_of, named, form};
+ghost use Rattle.sc_app.specs.Forms.{bytes_of, named, named_with, pivots_of, form};
 ghost use Rattle.sc_app.specs.Reading.{reads, IsReadable};
 
-use crate::limits::{MAX_CHAIN_BYTES, MAX_TEXT_BYTES};
+use crate::limits::{DEFAULT_PIVOTS, MAX_CHAIN_BYTES, MAX_TEXT_BYTES};
+use sc_text::limits::MAX_PIVOTS;
+use sc_text::{in_range, number_of};
 
 /// What the words of the command line ask for.
 #[derive(Clone, Copy, Debug, PartialEq, Eq)]
@@ -14,7 +16,10 @@ pub enum Command {
     /// `check`: reads a certificate and writes its value where the surface is least.
     Check,
     /// `scl`: reads a chain and writes its stable commutator length.
-    Scl,
+    Scl {
+        /// The pivots that may be made, at least 1.
+        pivots: u32,
+    },
 }
 
 /// What a command reads of its source.
@@ -34,7 +39,7 @@ impl Command {
     {
         match self {
             Command::Surface | Command::Check => Reading::AtMost(MAX_TEXT_BYTES),
-            Command::Scl => Reading::AtMost(MAX_CHAIN_BYTES),
+            Command::Scl { .. } => Reading::AtMost(MAX_CHAIN_BYTES),
         }
     }
 }
@@ -46,8 +51,32 @@ fn command_named(word: &str) -> Option<Command>
     match word {
         "surface" => Some(Command::Surface),
         "check" => Some(Command::Check),
-        "scl" => Some(Command::Scl),
+        "scl" => Some(Command::Scl {
+            pivots: DEFAULT_PIVOTS,
+        }),
         _ => None,
+    }
+}
+
+/// The number of pivots that a word names: from 1 to the most, in its one spelling.
+fn pivots_of(word: &str) -> Option<u32>
+    ensures { result ≡ pivots_of word.now }
+{
+    match number_of(word.as_bytes()) {
+        Ok(number) => in_range(number, 1, MAX_PIVOTS).ok(),
+        Err(_) => None,
+    }
+}
+
+/// The command of a word, an option and its number.
+fn command_named_with(word: &str, option: &str, number: &str) -> Option<Command>
+    ensures { result ≡ named_with word.now option.now number.now }
+{
+    if word == "scl" && option == "--pivots" {
+        let pivots = pivots_of(number)?;
+        Some(Command::Scl { pivots })
+    } else {
+        None
     }
 }
 
@@ -57,6 +86,9 @@ pub fn command_of(words: &Vec<String>) -> Option<Command>
 {
     match words.as_slice() {
         [word] => command_named(word.as_str()),
+        [word, option, number] => {
+            command_named_with(word.as_str(), option.as_str(), number.as_str())
+        }
         _ => None,
     }
 }

@@ -1,9 +1,10 @@
 //! Laws of the answers to inputs.
 
-ghost use Rattle.std.specs.Prelude.{◌≡◌, ℕ, List};
-ghost use Rattle.sc_app.specs.Forms.{IsForm};
+ghost use Rattle.std.specs.Prelude.{◌≡◌, ◌↔◌, ℕ, List};
+ghost use Rattle.sc_app.specs.Forms.{IsForm, AreWordsOfScl};
 ghost use Rattle.sc_app.specs.Answers.{Answers, HasOneAnswer};
 ghost use Rattle.sc_app.specs.declared.command.Command.{Command};
+ghost use Rattle.sc_app.specs.declared.command.Command.TheVariants.{Scl};
 ghost use Rattle.sc_app.specs.declared.status.Status.{Status};
 
 /// No input that has one answer has two: the same words and the same input give one status and one text.
@@ -18,4 +19,9 @@ pub fn an_input_has_at_most_one_answer()
 pub fn an_input_has_an_answer()
     ensures { (words : List (List ℕ)) (input : List ℕ) (c : Command) → IsForm c words
         → ¬ ((status : Status) (text : List ℕ) → ¬ Answers words input status text) }
+{}
+
+/// The forms of `scl`: the word alone, or with the option `--pivots` and a number.
+pub fn scl_has_two_forms()
+    ensures { (n : ℕ) (words : List (List ℕ)) → IsForm (Scl n) words ↔ AreWordsOfScl n words }
 {}

@@ -18,7 +18,7 @@ mod surface;
 
 pub use arguments::words_of_program;
 pub use command::{Command, Reading, command_of};
-pub use laws::{an_input_has_an_answer, an_input_has_at_most_one_answer};
+pub use laws::{an_input_has_an_answer, an_input_has_at_most_one_answer, scl_has_two_forms};
 pub use program::{run, run_to_code};
 pub use status::{Status, What};
 

@@ -1,4 +1,4 @@
-//! The most bytes that a command reads.
+//! The most bytes that a command reads, and how many pivots it may make.
 
 ghost use Rattle.std.specs.Prelude.{◌≡◌};
 
@@ -8,8 +8,12 @@ pub const MAX_TEXT_BYTES: usize = 67_108_864;
 /// The bytes of a chain text.
 pub const MAX_CHAIN_BYTES: usize = 65_536;
 
+/// The pivots that `scl` may make where the words name no number.
+pub const DEFAULT_PIVOTS: u32 = 20_000;
+
 /// The numbers of the limits.
 pub fn numbers()
     ensures text_bytes { MAX_TEXT_BYTES ≡ 67108864 }
     ensures chain_bytes { MAX_CHAIN_BYTES ≡ 65536 }
+    ensures default_pivots { DEFAULT_PIVOTS ≡ 20000 }
 {}

@@ -35,7 +35,7 @@ fn respond(alloc: Global, command: Command, input: &[u8]) -> Result<Answer, Allo
     match command {
         Command::Surface => answer_surface(alloc, input),
         Command::Check => answer_check(alloc, input),
-        Command::Scl => answer_scl(alloc, input),
+        Command::Scl { .. } => answer_scl(alloc, input),
     }
 }
 
@@ -175,7 +175,7 @@ pub fn run<S: Source, O: Sink, E: Sink>(
     ensures least { result ≡ Status.Done → IsForm commands.Check (bytes_of words.now.items) → IfSome (S.left source.old)
         (λ input. (text : List ℕ) × ShowsLeast input text × Took (O.taken out.old) (O.taken out.new) text) }
     // Where `scl` is done, `out` took the first generator whose total over the lines as written isn't 0, with that total.
-    ensures infinite { result ≡ Status.Done → IsForm commands.Scl (bytes_of words.now.items) → IfSome (S.left source.old)
+    ensures infinite { result ≡ Status.Done → (pivots : ℕ) → IsForm (commands.Scl pivots) (bytes_of words.now.items) → IfSome (S.left source.old)
         (λ input. (text : List ℕ) × ShowsInfinite input text × Took (O.taken out.old) (O.taken out.new) text) }
     // After a fault of `out` it has taken a part of the text of an answer.
     ensures broken { result ≡ Status.WriteFault → IfSome (input_for (bytes_of words.now.items) (S.left source.old)) (λ input.

@@ -56,17 +56,23 @@ struct Streams<'a> {
     write_fails: &'a [u64],
 }
 
+/// The words of a command line.
+fn words_of(alloc: Global, line: &str) -> Result<Vec<String>, AllocError> {
+    let mut words = Vec::new(alloc);
+    for word in line.split_whitespace() {
+        words.push(String::from_str(alloc, word)?)?;
+    }
+    Ok(words)
+}
+
 /// The status of a call, what `out` took and what `notes` took.
 fn call(
     alloc: Global,
-    word: &str,
+    line: &str,
     input: &[u8],
     streams: &Streams,
 ) -> Result<(Status, Vec<u8>, Vec<u8>), AllocError> {
-    let mut words = Vec::new(alloc);
-    if !word.is_empty() {
-        words.push(String::from_str(alloc, word)?)?;
-    }
+    let words = words_of(alloc, line)?;
     let piece = usize::from(streams.read_piece).max(1);
     let mut source = MemorySource::new(
         input.to_vec(alloc)?,
@@ -204,14 +210,14 @@ fn answers_what_the_commands_say(rt: HostRuntime) -> Result<(), Fail> {
             b"".as_slice(),
             Status::Usage,
             "",
-            "scallop: usage: surface | check | scl\n",
+            "scallop: usage: surface | check | scl [--pivots N]\n",
         ),
         (
             "x",
             b"".as_slice(),
             Status::Usage,
             "",
-            "scallop: usage: surface | check | scl\n",
+            "scallop: usage: surface | check | scl [--pivots N]\n",
         ),
     ];
     for (word, input, status, out, notes) in cases {
@@ -342,13 +348,30 @@ fn refuses_what_is_too_large(rt: HostRuntime) -> Result<(), Fail> {
 
 #[test]
 fn knows_its_forms_and_codes(rt: HostRuntime) -> Result<(), Fail> {
-    let mut words = Vec::new(rt.alloc());
-    assert_eq!(rt; command_of(&words), None);
-    words.push(String::from_str(rt.alloc(), "check")?)?;
-    assert_eq!(rt; command_of(&words), Some(Command::Check));
-    words.push(String::from_str(rt.alloc(), "x")?)?;
-    assert_eq!(rt; command_of(&words), None);
-    assert_eq!(rt; Command::Scl.reads(), Reading::AtMost(65_536));
+    let cases = [
+        ("", None),
+        ("surface", Some(Command::Surface)),
+        ("check", Some(Command::Check)),
+        ("scl", Some(Command::Scl { pivots: 20_000 })),
+        ("scl --pivots 1", Some(Command::Scl { pivots: 1 })),
+        ("scl --pivots 50000", Some(Command::Scl { pivots: 50_000 })),
+        ("scl --pivots 50001", None),
+        ("scl --pivots 0", None),
+        ("scl --pivots -1", None),
+        ("scl --pivots 01", None),
+        ("scl --pivots +1", None),
+        ("scl --pivots 340282366920938463463374607431768211457", None),
+        ("scl --pivots x", None),
+        ("scl --pivots", None),
+        ("scl --pivots 1 1", None),
+        ("scl -pivots 1", None),
+        ("check --pivots 1", None),
+        ("check x", None),
+    ];
+    for (line, command) in cases {
+        assert_eq!(rt; command_of(&words_of(rt.alloc(), line)?), command, "{line}");
+    }
+    assert_eq!(rt; Command::Scl { pivots: 1 }.reads(), Reading::AtMost(65_536));
     for (status, code) in [
         (Status::Done, 0),
         (Status::ReadFault, 8),
@@ -379,7 +402,7 @@ fn code(
 
 #[test]
 fn ends_with_the_code_of_the_status(rt: HostRuntime) -> Result<(), Fail> {
-    let usage = b"scallop: usage: surface | check | scl\n".as_slice();
+    let usage = b"scallop: usage: surface | check | scl [--pivots N]\n".as_slice();
     let report = b"vertices 1\nedges 2\neuler -1\nfraction 1/2\n".as_slice();
     let (ended, written, noted) = code(rt.alloc(), None, COMMUTATOR)?;
     assert_eq!(rt; ended, 10);

@@ -48,6 +48,6 @@ returns-clause-least g c = λ e form.
     (calls.done _ _ _ _ _ _ _ _ _ _ c.serve_words-status.ensures.answer Check form e)
 
 pub returns-clause-infinite : goal.returns-clause-infinite
-returns-clause-infinite g c = λ e form.
-    infinite (g.S.Source.left c.args.source.now) (g.O.Sink.taken c.args.out.now) (g.O.Sink.taken c.serve_words-status.new.out)
-    (calls.done _ _ _ _ _ _ _ _ _ _ c.serve_words-status.ensures.answer Scl form e)
+returns-clause-infinite g c = λ e n form.
+    infinite n (g.S.Source.left c.args.source.now) (g.O.Sink.taken c.args.out.now) (g.O.Sink.taken c.serve_words-status.new.out)
+    (calls.done _ _ _ _ _ _ _ _ _ _ c.serve_words-status.ensures.answer (Scl n) form e)
