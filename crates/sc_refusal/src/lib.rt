@@ -1,0 +1,12 @@
+//! The texts of refusals of a solver: each has the chain and the pivots that were made, and why there was no going on.
+#![tactic(auto)]
+
+mod fields;
+mod lines;
+mod places;
+mod texts;
+
+pub use texts::{budget_text, sides_text, wide_text};
+
+#[cfg(test)]
+mod tests;

@@ -1,0 +1,140 @@
+//! The lines of refusals.
+
+ghost use Rattle.std.specs.Prelude.{◌≡◌, ◌++◌, OnOk};
+ghost use Rattle.std.specs.Option.{option_map};
+ghost use Rattle.std.specs.Vec.{vec_items};
+ghost use Rattle.sc_chain.specs.Faults.{IsSmallChain};
+ghost use Rattle.sc_line.specs.Lines.{ended, text_of};
+ghost use Rattle.sc_certificate.specs.PivotLines.{pivot_line};
+ghost use Rattle.sc_certificate.specs.Spelled.{journal_lines};
+ghost use Rattle.sc_refusal.specs.Texts as texts;
+
+use crate::fields::{place_fields, push_numbers};
+use sc_chain::{Chain, Pivot, Word};
+use sc_fraction::Frac;
+use sc_rows::WideAt;
+use sc_text::{Field, print_count_line, print_line, print_value_line, print_words};
+use std::alloc::AllocError;
+
+/// Appends the line of a name and the positions of a walk.
+pub(crate) fn print_walk_line(
+    name: &[u8],
+    walk: &[u32],
+    out: &mut Vec<u8>,
+) -> Result<(), AllocError>
+    ensures { OnOk result (out.new.items ≡ out.old.items ++ ended (texts.walk_line name.now walk.now)) }
+{
+    let mut fields = Vec::new(*out.allocator());
+    push_numbers(&mut fields, walk)?;
+    print_line(name, fields.as_slice(), out)
+}
+
+/// Appends the line of a walk, where one is told.
+fn print_told_walk(
+    name: &[u8],
+    walk: &Option<Vec<u32>>,
+    out: &mut Vec<u8>,
+) -> Result<(), AllocError>
+    ensures { OnOk result (out.new.items ≡ out.old.items ++ text_of (texts.told_walk name.now (option_map vec_items walk.now))) }
+{
+    match walk {
+        Some(walk) => print_walk_line(name, walk.as_slice(), out),
+        None => Ok(()),
+    }
+}
+
+/// Appends the line of a row, where one is told.
+fn print_told_row(name: &[u8], row: Option<u32>, out: &mut Vec<u8>) -> Result<(), AllocError>
+    ensures { OnOk result (out.new.items ≡ out.old.items ++ text_of (texts.told_row name.now row)) }
+{
+    match row {
+        Some(row) => print_count_line(name, u64::from(row), out),
+        None => Ok(()),
+    }
+}
+
+/// Appends the line of a place and that of its operands.
+fn print_operation(at: &WideAt, out: &mut Vec<u8>) -> Result<(), AllocError>
+    ensures { OnOk result (out.new.items ≡ out.old.items ++ text_of (texts.operation_lines at.now)) }
+{
+    let fields = place_fields(*out.allocator(), at)?;
+    print_line(b"place", fields.as_slice(), out)?;
+    let operands = [Field::Number(at.wide.x), Field::Number(at.wide.y)];
+    print_line(b"operands", &operands, out)
+}
+
+/// Appends the lines of an operation that is too wide.
+pub(crate) fn print_wide_lines(at: &WideAt, out: &mut Vec<u8>) -> Result<(), AllocError>
+    ensures { OnOk result (out.new.items ≡ out.old.items ++ text_of (texts.wide_lines at.now)) }
+{
+    print_told_walk(b"entering", &at.entering, out)?;
+    print_told_row(b"leaving", at.leaving, out)?;
+    print_told_walk(b"walk", &at.walk, out)?;
+    print_operation(at, out)
+}
+
+fn print_pivot_line(pivot: &Pivot, out: &mut Vec<u8>) -> Result<(), AllocError>
+    ensures { OnOk result (out.new.items ≡ out.old.items ++ ended (pivot_line pivot.now)) }
+{
+    let mut fields = Vec::from_slice(*out.allocator(), &[Field::Number(i128::from(pivot.row))])?;
+    push_numbers(&mut fields, pivot.polygon.walk())?;
+    print_line(b"pivot", fields.as_slice(), out)
+}
+
+/// Appends the lines of a journal: how many pivots there are, and the pivots.
+fn print_journal(journal: &[Pivot], out: &mut Vec<u8>) -> Result<(), AllocError>
+    ensures { OnOk result (out.new.items ≡ out.old.items ++ text_of (journal_lines journal.now)) }
+{
+    print_count_line(b"pivots", journal.len() as u64, out)?;
+    for pivot in journal {
+        print_pivot_line(pivot, out)?;
+    }
+    Ok(())
+}
+
+// The words of a chain, each behind its weight.
+fn entries_of(chain: &Chain) -> &[(u32, Word)]
+    ensures words { result.now ≡ chain.now }
+    ensures small { IsSmallChain chain.now }
+{
+    let entries = chain.entries();
+    let count = chain.words();
+    prove!(entries.len() == count);
+    entries
+}
+
+/// Appends what every refusal's text begins with: its heading, the chain and the journal.
+pub(crate) fn print_front(
+    heading: &[u8],
+    chain: &Chain,
+    journal: &[Pivot],
+    out: &mut Vec<u8>,
+) -> Result<(), AllocError>
+    ensures { OnOk result (out.new.items ≡ out.old.items ++ text_of (texts.front_lines heading.now chain.now journal.now)) }
+{
+    print_line(heading, &[], out)?;
+    print_words(entries_of(chain), out)?;
+    print_journal(journal, out)
+}
+
+fn print_number_line(name: &[u8], number: i128, out: &mut Vec<u8>) -> Result<(), AllocError>
+    ensures { OnOk result (out.new.items ≡ out.old.items ++ ended (texts.number_line name.now number)) }
+{
+    print_line(name, &[Field::Number(number)], out)
+}
+
+/// Appends the numbers by which a part leads to too many sides.
+pub(crate) fn print_sides_lines(
+    value: &Frac,
+    so_far: u32,
+    next: i128,
+    length: u64,
+    out: &mut Vec<u8>,
+) -> Result<(), AllocError>
+    ensures { OnOk result (out.new.items ≡ out.old.items ++ text_of (texts.multiple_lines value.now so_far next length)) }
+{
+    print_value_line(value, out)?;
+    print_count_line(b"so-far", u64::from(so_far), out)?;
+    print_number_line(b"next", next, out)?;
+    print_count_line(b"length", length, out)
+}
