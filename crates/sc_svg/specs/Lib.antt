@@ -1,0 +1,4 @@
+pub mod Layout
+pub mod Drawings
+pub mod Pieces
+pub mod LaidOut
