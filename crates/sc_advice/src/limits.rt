@@ -1,0 +1,31 @@
+//! How far the search goes. All of it is free: other numbers make other advice, which is no less true.
+
+/// The polygons that the search knows at most.
+pub(crate) const MAX_COLUMNS: usize = 20_000;
+
+/// The polygons whose leaving rows are looked at before one of them enters.
+pub(crate) const CANDIDATES: usize = 12;
+
+/// The exchanges after which new polygons are looked for.
+pub(crate) const PRICING_INTERVAL: u32 = 25;
+
+/// The exchanges after which the numbers are checked.
+pub(crate) const CHECK_INTERVAL: u32 = 64;
+
+/// The exchanges for each row, at most ..
+pub(crate) const EXCHANGES_A_ROW: u32 = 16;
+
+/// .. and where near polygons are preferred a little.
+pub(crate) const NEAR_EXCHANGES_A_ROW: u32 = 24;
+
+/// How often the search goes back to its last sound basis, at most.
+pub(crate) const RETREATS: u32 = 20;
+
+/// The sides of a surface that the search for a good one takes, at most.
+pub(crate) const MAX_SIDES: u64 = 600;
+
+/// The exchanges of mates that the search for a good surface tries.
+pub(crate) const SWAPS: u32 = 200_000;
+
+/// The exchanges that are held back before the inverse has them.
+pub(crate) const HELD_EXCHANGES: usize = 6;
