@@ -11,3 +11,10 @@ pub mod LiftedRows
 pub mod ListSizes
 pub mod ListTotals
 pub mod ListRows
+pub mod PolygonJournals
+pub mod PartCounts
+pub mod LastBases
+pub mod PartLoops
+pub mod Tightness
+pub mod CertificateRanges
+pub mod EndingLaws

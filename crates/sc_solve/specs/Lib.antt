@@ -8,3 +8,6 @@ pub mod EntryLaws
 pub mod OracleLaws
 pub mod ListSteps
 pub mod ListTables
+pub mod Solutions
+pub mod Assembling
+pub mod Endings
