@@ -8,7 +8,7 @@ use Rattle.sc_prices.specs.declared.verdict.Condition.TheVariants.{Flaw}
 use Rattle.sc_app.specs.declared.command.Command.{Command}
 use Rattle.sc_app.specs.declared.command.Command.TheVariants.{Surface, Check, Scl}
 use Rattle.sc_app.specs.declared.status.Status.{Status}
-use Rattle.sc_app.specs.declared.status.Status.TheVariants.{Done, Malformed, Large, Rejected, Unbuilt}
+use Rattle.sc_app.specs.declared.status.Status.TheVariants.{Done, Malformed, Large, Rejected, Budget, Wide, Sides}
 use Rattle.sc_app.specs.declared.status.What.TheVariants.{Words, Positions}
 use Rattle.sc_app.specs.Surface.{SurfaceResponds, SurfaceAccepts, IsSurfaceStatus}
 use Rattle.sc_app.specs.Check.{CheckResponds, CheckAccepts, IsCheckStatus}
@@ -29,22 +29,24 @@ own_of_check input text (Rejected condition) a r = tt
 own_of_check input text (Malformed at kind) a r = absurd (faultless_first certificate_plan input at kind (certificate_faultless input a.0 a.1) r.0)
 own_of_check input text _ a r = absurd r
 
-own_of_scl : (input text : List ℕ) (s : Status) → SclAccepts input → SclResponds input s text → IsSclStatus s
-own_of_scl input text Done a r = tt
-own_of_scl input text Unbuilt a r = tt
-own_of_scl input text (Malformed at kind) a r = absurd (good_or_malformed input a.0 at kind a.1 r.0)
-own_of_scl input text (Large (Words n)) a r =
-    let many = subst (λ (lines : List RawLine). HasManyWords (chain_of lines) n) (same_lines input r.0 a.0 r.1 a.1) r.2 in
+own_of_scl : (n : ℕ) (input text : List ℕ) (s : Status) → SclAccepts input → SclResponds n input s text → IsSclStatus input s
+own_of_scl n input text Done a r = tt
+own_of_scl n input text Budget a r = (r.0, r.1, r.2, r.3.balanced)
+own_of_scl n input text Wide a r = (r.0, r.1, r.2, r.3.balanced)
+own_of_scl n input text Sides a r = (r.0, r.1, r.2, r.3.balanced)
+own_of_scl n input text (Malformed at kind) a r = absurd (good_or_malformed input a.0 at kind a.1 r.0)
+own_of_scl n input text (Large (Words count)) a r =
+    let many = subst (λ (lines : List RawLine). HasManyWords (chain_of lines) count) (same_lines input r.0 a.0 r.1 a.1) r.2 in
     absurd (omega (arith, many.many, a.2.few_words))
-own_of_scl input text (Large (Positions n)) a r =
-    let many = subst (λ (lines : List RawLine). HasManyPositions (chain_of lines) n) (same_lines input r.0 a.0 r.1 a.1) r.2 in
+own_of_scl n input text (Large (Positions count)) a r =
+    let many = subst (λ (lines : List RawLine). HasManyPositions (chain_of lines) count) (same_lines input r.0 a.0 r.1 a.1) r.2 in
     absurd (omega (arith, many.many, a.2.few_positions))
-own_of_scl input text _ a r = absurd r.3
+own_of_scl n input text _ a r = absurd r.3
 
-pub own_status : (c : Command) (input text : List ℕ) (s : Status) → IsAccepted c input → AnswersTo c input s text → IsOwnStatus c s
+pub own_status : (c : Command) (input text : List ℕ) (s : Status) → IsAccepted c input → AnswersTo c input s text → IsOwnStatus c input s
 own_status Surface input text s a (inl long) = absurd (omega (arith, a.0, long.0))
 own_status Surface input text s a (inr r) = own_of_surface input text s a.1 r.1
 own_status Check input text s a (inl long) = absurd (omega (arith, a.0, long.0))
 own_status Check input text s a (inr r) = own_of_check input text s a.1 r.1
 own_status (Scl pivots) input text s a (inl long) = absurd (omega (arith, a.0, long.0))
-own_status (Scl pivots) input text s a (inr r) = own_of_scl input text s a.1 r.1
+own_status (Scl pivots) input text s a (inr r) = own_of_scl pivots input text s a.1 r.1

@@ -5,7 +5,7 @@ use Rattle.sc_app.specs.declared.command.Command.{Command}
 use Rattle.sc_app.specs.declared.command.Reading.{Reading}
 use Rattle.sc_app.specs.declared.command.Reading.TheVariants.{Nothing, AtMost}
 use Rattle.sc_app.specs.declared.status.Status.{Status}
-use Rattle.sc_app.specs.declared.status.Status.TheVariants.{Done, Usage, Malformed, Large, ReadFault, WriteFault, Memory, Rejected, Unbuilt}
+use Rattle.sc_app.specs.declared.status.Status.TheVariants.{Done, Usage, Malformed, Large, Wide, Budget, Sides, ReadFault, WriteFault, Memory, Rejected}
 use Rattle.sc_app.specs.declared.status.What.TheVariants.{Bytes, Words, Positions}
 use Rattle.sc_app.specs.Forms.{IsForm, HasNoForm}
 use Rattle.sc_app.specs.Kinds.{StatusKind, WithText, WithoutText, PastLimit, Unasked, NotRead, NotWritten, NoMemory, kind_of, Decides, HasNoText, HadItsInput, Excuses, IsDecided, IsQuiet, IsReadToTheEnd, IsExcused}
@@ -25,7 +25,9 @@ memory_alone (Malformed line kind) e = absurd (cc)
 memory_alone (Large Bytes) e = absurd (cc)
 memory_alone (Large (Words count)) e = absurd (cc)
 memory_alone (Large (Positions count)) e = absurd (cc)
-memory_alone Unbuilt e = absurd (cc)
+memory_alone Wide e = absurd (cc)
+memory_alone Budget e = absurd (cc)
+memory_alone Sides e = absurd (cc)
 memory_alone Usage e = absurd (cc)
 memory_alone ReadFault e = absurd (cc)
 memory_alone WriteFault e = absurd (cc)
@@ -229,9 +231,11 @@ module _ (words : List (List ℕ)) (left left' : Option (List ℕ)) (faults faul
     | inr h ↦ subst (λ (d : Command). IfSome (given (reads d) left) (Completes d)) (one_command words h.command c h.words_are form) (completes h)
   ]
 
-  -- the answer of a command that is done
-  pub done : (c : Command) → IsForm c words → s ≡ Done → Delivers c (given (reads c) left) old new Done
-  done c form e = elim m [
+  -- the answer of a command that ends by a status with a text
+  pub told : (c : Command) (t : Status) → IsForm c words → kind_of t ≡ WithText → s ≡ t → Delivers c (given (reads c) left) old new t
+  told c t form text e = elim m [
     | inl h ↦ absurd (no_command words c form h.none)
-    | inr h ↦ subst (λ (d : Command). Delivers d (given (reads d) left) old new Done) (one_command words h.command c h.words_are form) (ends_as Done e h)
+    | inr h ↦
+        let ends = subst (λ (k : StatusKind). EndsBy k h.command (given (reads h.command) left) R W old new t) text (ends_as t e h) in
+        subst (λ (d : Command). Delivers d (given (reads d) left) old new t) (one_command words h.command c h.words_are form) ends
   ]

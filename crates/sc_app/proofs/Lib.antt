@@ -7,6 +7,7 @@ pub mod OneText
 pub mod OneAnswer
 pub mod Accepted
 pub mod Serving
+pub mod Ranges
 pub mod Calls
 pub mod Least
 pub mod SomeAnswer

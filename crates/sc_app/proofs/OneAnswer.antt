@@ -1,11 +1,10 @@
 -- An input has one answer.
-use Rattle.std.proofs.Common.{◌≡◌, ℕ, ◌⊎◌, inl, inr, List, [], ℤ, refl, ap, ap₂, ◌∙◌, subst, sym, arith}
-use Rattle.sc_theory.specs.Chains.{Chain, IsBalanced}
+use Rattle.std.proofs.Common.{◌≡◌, ℕ, ◌⊎◌, inl, inr, List, [], refl, ap, ap₂, ◌∙◌, subst, sym, arith}
+use Rattle.sc_theory.specs.Chains.{Chain}
 use Rattle.sc_theory.specs.Fatgraphs.{Sides, IsFatgraph}
 use Rattle.sc_line.specs.declared.fault.Kind.{Kind}
 use Rattle.sc_chain.specs.declared.lines.RawLine.{RawLine}
 use Rattle.sc_chain.specs.ChainText.{IsChainText, IsFirstMalformed}
-use Rattle.sc_chain.specs.Balance.{IsFirstUnbalanced}
 use Rattle.sc_reduce.specs.Lines.{chain_of, IsWithin, HasManyWords, HasManyPositions}
 use Rattle.sc_line.specs.Faults.{IsFirstFault}
 use Rattle.sc_line.proofs.FaultLaws.{first_fault-unique, faultless_first}
@@ -21,13 +20,14 @@ use Rattle.sc_prices.proofs.Failing.{one_failing, none_failing}
 use Rattle.sc_app.specs.declared.command.Command.{Command}
 use Rattle.sc_app.specs.declared.command.Command.TheVariants.{Surface, Check, Scl}
 use Rattle.sc_app.specs.declared.status.Status.{Status}
-use Rattle.sc_app.specs.declared.status.Status.TheVariants.{Done, Malformed, Large, Rejected, Unbuilt}
+use Rattle.sc_app.specs.declared.status.Status.TheVariants.{Done, Malformed, Large, Rejected, Budget, Wide}
+use Rattle.sc_app.specs.declared.status.Status.TheVariants as statuses
 use Rattle.sc_app.specs.declared.status.What.TheVariants.{Words, Positions}
 use Rattle.sc_app.specs.Forms.{IsForm}
 use Rattle.sc_app.specs.Said.{IsCertificateText, Says, plan_for}
 use Rattle.sc_app.specs.Surface.{SurfaceResponds}
 use Rattle.sc_app.specs.Check.{CheckResponds}
-use Rattle.sc_app.specs.Scl.{SclResponds}
+use Rattle.sc_app.specs.Scl.{SclResponds, HasSeveralAnswers}
 use Rattle.sc_app.proofs.Inputs.{certificate_faultless, same_certificate, says_no_fault, same_surface}
 use Rattle.sc_app.proofs.OneText.{one_text}
 use Rattle.sc_app.specs.declared.command.Reading.{Reading}
@@ -114,42 +114,37 @@ one_check_status input s s' (inr (inr a)) (inr (inr b)) = a.1 ∙ sym b.1
 
 -- ---- chains
 
--- what a status of `scl` comes of
+-- what a status of `scl` comes of where the input has one right answer
 abbrev ChainCause : Chain → Status → Type 0
 ChainCause c s =
     ((n : ℕ) × (s ≡ Large (Words n)) × HasManyWords c n) ⊎ (((n : ℕ) × (s ≡ Large (Positions n)) × HasManyPositions c n)
-    ⊎ (((g : ℕ) × (t : ℤ) × (s ≡ Done) × IsWithin c × IsFirstUnbalanced c g t) ⊎ ((s ≡ Unbuilt) × IsWithin c × IsBalanced c)))
+    ⊎ ((s ≡ Done) × IsWithin c))
 
 abbrev SclCause : List ℕ → Status → Type 0
 SclCause input s =
     ((at : ℕ) × (kind : Kind) × (s ≡ Malformed at kind) × IsFirstMalformed input at kind)
     ⊎ ((lines : List RawLine) × IsChainText input lines × ChainCause (chain_of lines) s)
 
-scl_cause : (input text : List ℕ) (s : Status) → SclResponds input s text → SclCause input s
-scl_cause input text (Malformed at kind) r = inl (at, kind, refl, r.0)
-scl_cause input text (Large (Words n)) r = inr (r.0, r.1, inl (n, refl, r.2))
-scl_cause input text (Large (Positions n)) r = inr (r.0, r.1, inr (inl (n, refl, r.2)))
-scl_cause input text Done r = inr (r.0, r.1, inr (inr (inl (r.3.0, r.3.1, refl, r.2, r.3.2))))
-scl_cause input text Unbuilt r = inr (r.0, r.1, inr (inr (inr (refl, r.2, r.3.0))))
-scl_cause input text _ r = absurd r.3
+scl_cause : (n : ℕ) (input text : List ℕ) (s : Status) → ¬ HasSeveralAnswers input → SclResponds n input s text → SclCause input s
+scl_cause n input text (Malformed at kind) one r = inl (at, kind, refl, r.0)
+scl_cause n input text (Large (Words count)) one r = inr (r.0, r.1, inl (count, refl, r.2))
+scl_cause n input text (Large (Positions count)) one r = inr (r.0, r.1, inr (inl (count, refl, r.2)))
+scl_cause n input text Done one r = inr (r.0, r.1, inr (inr (refl, r.2)))
+scl_cause n input text Budget one r = absurd (one (r.0, r.1, r.2, r.3.balanced))
+scl_cause n input text Wide one r = absurd (one (r.0, r.1, r.2, r.3.balanced))
+scl_cause n input text statuses.Sides one r = absurd (one (r.0, r.1, r.2, r.3.balanced))
+scl_cause n input text _ one r = absurd r.3
 
 one_chain_status : (c : Chain) (s s' : Status) → ChainCause c s → ChainCause c s' → s ≡ s'
 one_chain_status c s s' (inl a) (inl b) = a.1 ∙ ap (λ (n : ℕ). Large (Words n)) (a.2.count_is ∙ sym b.2.count_is) ∙ sym b.1
 one_chain_status c s s' (inl a) (inr (inl b)) = absurd (omega (arith, a.2.many, b.2.few_words))
-one_chain_status c s s' (inl a) (inr (inr (inl b))) = absurd (omega (arith, a.2.many, b.3.few_words))
-one_chain_status c s s' (inl a) (inr (inr (inr b))) = absurd (omega (arith, a.2.many, b.1.few_words))
+one_chain_status c s s' (inl a) (inr (inr b)) = absurd (omega (arith, a.2.many, b.1.few_words))
 one_chain_status c s s' (inr (inl a)) (inl b) = absurd (omega (arith, b.2.many, a.2.few_words))
 one_chain_status c s s' (inr (inl a)) (inr (inl b)) = a.1 ∙ ap (λ (n : ℕ). Large (Positions n)) (a.2.count_is ∙ sym b.2.count_is) ∙ sym b.1
-one_chain_status c s s' (inr (inl a)) (inr (inr (inl b))) = absurd (omega (arith, a.2.many, b.3.few_positions))
-one_chain_status c s s' (inr (inl a)) (inr (inr (inr b))) = absurd (omega (arith, a.2.many, b.1.few_positions))
-one_chain_status c s s' (inr (inr (inl a))) (inl b) = absurd (omega (arith, b.2.many, a.3.few_words))
-one_chain_status c s s' (inr (inr (inl a))) (inr (inl b)) = absurd (omega (arith, b.2.many, a.3.few_positions))
-one_chain_status c s s' (inr (inr (inl a))) (inr (inr (inl b))) = a.2 ∙ sym b.2
-one_chain_status c s s' (inr (inr (inl a))) (inr (inr (inr b))) = absurd (a.4.unbalanced (a.4.total_is ∙ b.2 a.0))
-one_chain_status c s s' (inr (inr (inr a))) (inl b) = absurd (omega (arith, b.2.many, a.1.few_words))
-one_chain_status c s s' (inr (inr (inr a))) (inr (inl b)) = absurd (omega (arith, b.2.many, a.1.few_positions))
-one_chain_status c s s' (inr (inr (inr a))) (inr (inr (inl b))) = absurd (b.4.unbalanced (b.4.total_is ∙ a.2 b.0))
-one_chain_status c s s' (inr (inr (inr a))) (inr (inr (inr b))) = a.0 ∙ sym b.0
+one_chain_status c s s' (inr (inl a)) (inr (inr b)) = absurd (omega (arith, a.2.many, b.1.few_positions))
+one_chain_status c s s' (inr (inr a)) (inl b) = absurd (omega (arith, b.2.many, a.1.few_words))
+one_chain_status c s s' (inr (inr a)) (inr (inl b)) = absurd (omega (arith, b.2.many, a.1.few_positions))
+one_chain_status c s s' (inr (inr a)) (inr (inr b)) = a.0 ∙ sym b.0
 
 one_scl_status : (input : List ℕ) (s s' : Status) → SclCause input s → SclCause input s' → s ≡ s'
 one_scl_status input s s' (inl a) (inl b) = a.2 ∙ one_malformed input a.0 b.0 a.1 b.1 a.3 b.3 ∙ sym b.2
@@ -163,7 +158,7 @@ one_scl_status input s s' (inr a) (inr b) =
 one_response : (c : Command) (input text text' : List ℕ) (s s' : Status) → IsDetermined c input → Responds c input s text → Responds c input s' text' → s ≡ s'
 one_response Surface input text text' s s' one r r' = one_surface_status input s s' (surface_cause input text s r) (surface_cause input text' s' r')
 one_response Check input text text' s s' one r r' = one_check_status input s s' (check_cause input text s r) (check_cause input text' s' r')
-one_response (Scl pivots) input text text' s s' one r r' = one_scl_status input s s' (scl_cause input text s r) (scl_cause input text' s' r')
+one_response (Scl pivots) input text text' s s' one r r' = one_scl_status input s s' (scl_cause pivots input text s one r) (scl_cause pivots input text' s' one r')
 
 one_of_reading : (reading : Reading) (c : Command) (input text text' : List ℕ) (s s' : Status) → DeterminedBy reading c input → RespondsBy reading c input s text → RespondsBy reading c input s' text' → s ≡ s'
 one_of_reading Nothing c input text text' s s' one a b = one_response c [] text text' s s' one a b

@@ -8,18 +8,18 @@ use Rattle.sc_fraction.specs.declared.frac.Frac.{Frac}
 use Rattle.sc_fraction.specs.Frac.{IsQuotient, numerator, denominator}
 use Rattle.sc_fraction.specs.Laws.{same_frac}
 use Rattle.sc_chain.specs.declared.lines.RawLine.{RawLine}
-use Rattle.sc_chain.specs.Balance.{IsFirstUnbalanced}
 use Rattle.sc_reduce.specs.Lines.{chain_of}
 use Rattle.sc_certificate.specs.Certificates.{Certificate}
 use Rattle.sc_prices.specs.declared.verdict.Condition.TheVariants.{Flaw}
 use Rattle.sc_app.specs.declared.command.Command.{Command}
 use Rattle.sc_app.specs.declared.command.Command.TheVariants.{Surface, Check, Scl}
 use Rattle.sc_app.specs.declared.status.Status.{Status}
-use Rattle.sc_app.specs.declared.status.Status.TheVariants.{Done, Malformed, Large, Rejected, Unbuilt}
+use Rattle.sc_app.specs.declared.status.Status.TheVariants.{Done, Malformed, Large, Rejected, Budget, Wide}
+use Rattle.sc_app.specs.declared.status.Status.TheVariants as statuses
 use Rattle.sc_app.specs.declared.status.What.TheVariants.{Words, Positions}
 use Rattle.sc_app.specs.Surface.{SurfaceResponds, report}
 use Rattle.sc_app.specs.Check.{CheckResponds, optimal}
-use Rattle.sc_app.specs.Scl.{SclResponds}
+use Rattle.sc_app.specs.Scl.{SclResponds, IsInfinite, HasSeveralAnswers}
 use Rattle.sc_app.specs.Said.{Refuses}
 use Rattle.sc_app.specs.declared.command.Reading.{Reading}
 use Rattle.sc_app.specs.declared.command.Reading.TheVariants.{Nothing, AtMost}
@@ -69,23 +69,28 @@ check_text input text text' _ r r' = absurd r
 
 -- ---- chains
 
-scl_text : (input text text' : List ℕ) (s : Status) → SclResponds input s text → SclResponds input s text' → text ≡ text'
-scl_text input text text' (Malformed at kind) r r' = r.1 ∙ sym r'.1
-scl_text input text text' (Large (Words n)) r r' = r.3 ∙ sym r'.3
-scl_text input text text' (Large (Positions n)) r r' = r.3 ∙ sym r'.3
-scl_text input text text' Done r r' =
-    let first : IsFirstUnbalanced (chain_of r'.0) r.3.0 r.3.1 =
-    subst (λ (lines : List RawLine). IsFirstUnbalanced (chain_of lines) r.3.0 r.3.1) (same_lines input r.0 r'.0 r.1 r'.1) r.3.2 in
-    r.3.3 ∙ same_infinite (chain_of r'.0) r.3.0 r'.3.0 r.3.1 r'.3.1 first r'.3.2 ∙ sym r'.3.3
-scl_text input text text' Unbuilt r r' = r.3.1 ∙ sym r'.3.1
-scl_text input text text' _ r r' = absurd r.3
+same_infinite_text : (c : Chain) (text text' : List ℕ) → IsInfinite c text → IsInfinite c text' → text ≡ text'
+same_infinite_text c text text' a b = a.text_is ∙ same_infinite c a.generator b.generator a.total b.total a.first b.first ∙ sym b.text_is
+
+scl_text : (n : ℕ) (input text text' : List ℕ) (s : Status) → ¬ HasSeveralAnswers input → SclResponds n input s text → SclResponds n input s text' → text ≡ text'
+scl_text n input text text' (Malformed at kind) one r r' = r.1 ∙ sym r'.1
+scl_text n input text text' (Large (Words count)) one r r' = r.3 ∙ sym r'.3
+scl_text n input text text' (Large (Positions count)) one r r' = r.3 ∙ sym r'.3
+scl_text n input text text' Done one (lines, read, within, inl a) (lines', read', within', inl b) =
+    same_infinite_text (chain_of lines') text text' (subst (λ (l : List RawLine). IsInfinite (chain_of l) text) (same_lines input lines lines' read read') a) b
+scl_text n input text text' Done one (lines, read, within, inl a) (lines', read', within', inr b) = absurd (one (lines', read', within', b.balanced))
+scl_text n input text text' Done one (lines, read, within, inr a) r' = absurd (one (lines, read, within, a.balanced))
+scl_text n input text text' Budget one r r' = absurd (one (r.0, r.1, r.2, r.3.balanced))
+scl_text n input text text' Wide one r r' = absurd (one (r.0, r.1, r.2, r.3.balanced))
+scl_text n input text text' statuses.Sides one r r' = absurd (one (r.0, r.1, r.2, r.3.balanced))
+scl_text n input text text' _ one r r' = absurd r.3
 
 -- ---- commands
 
 response_text : (c : Command) (input text text' : List ℕ) (s : Status) → IsDetermined c input → Responds c input s text → Responds c input s text' → text ≡ text'
 response_text Surface input text text' s one r r' = surface_text input text text' s r r'
 response_text Check input text text' s one r r' = check_text input text text' s r r'
-response_text (Scl pivots) input text text' s one r r' = scl_text input text text' s r r'
+response_text (Scl pivots) input text text' s one r r' = scl_text pivots input text text' s one r r'
 
 pub one_text : (reading : Reading) (c : Command) (input text text' : List ℕ) (s : Status) → DeterminedBy reading c input → RespondsBy reading c input s text → RespondsBy reading c input s text' → text ≡ text'
 one_text Nothing c input text text' s one a b = response_text c [] text text' s one a b

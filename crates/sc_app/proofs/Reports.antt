@@ -1,20 +1,27 @@
 -- The text of a surface's report, and what `surface` and `scl` answer.
-use Rattle.std.proofs.Common.{◌≡◌, ℕ, ◌*◌, List, [], ◌++◌, codes, ℤ, pos, ◌-ℤ◌, ap₂, ◌∙◌, subst, refl}
+use Rattle.std.proofs.Common.{◌≡◌, ℕ, ◌*◌, List, [], ◌++◌, codes, ℤ, pos, ◌-ℤ◌, ap₂, ◌∙◌, subst, sym, refl}
 use Rattle.sc_whole.specs.Spelling.{spelling}
-use Rattle.sc_theory.specs.Chains.{Chain}
+use Rattle.sc_theory.specs.Chains.{Chain, IsBalanced}
 use Rattle.sc_theory.specs.Fatgraphs.{Sides, IsFatgraph, vertices, edges, cost}
 use Rattle.sc_fraction.specs.declared.frac.Frac.{Frac}
 use Rattle.sc_fraction.specs.Frac.{IsQuotient, frac_text}
-use Rattle.sc_fatgraph.specs.Surfaces.{Surface}
+use Rattle.sc_fatgraph.specs.Surfaces.{Surface, surface}
+use Rattle.sc_certificate.specs.Certificates.{Certificate}
+use Rattle.sc_prices.specs.Conditions.{stated}
+use Rattle.sc_solve.specs.declared.solution.Solution.{Solution}
+use Rattle.sc_solve.specs.declared.solution.SolveFault.{SolveFault}
+use Rattle.sc_solve.specs.declared.solution.SolveFault.TheVariants as faults
+use Rattle.sc_solve.specs.Solutions.{IsStopped, certificate_of}
 use Rattle.sc_chain.specs.declared.lines.RawLine.{RawLine}
 use Rattle.sc_chain.specs.ChainText.{IsChainText}
 use Rattle.sc_reduce.specs.Lines.{chain_of, IsWithin}
 use Rattle.sc_app.specs.Notes.{line}
 use Rattle.sc_app.specs.Said.{Says, Refuses}
 use Rattle.sc_app.specs.Surface.{SurfaceResponds, euler, report, fraction_label}
-use Rattle.sc_app.specs.Scl.{SclResponds, IsValueOf}
+use Rattle.sc_app.specs.Scl.{SclResponds, IsValueOf, IsToldBy}
 use Rattle.sc_app.specs.declared.status.Status.{Status}
-use Rattle.sc_app.specs.declared.status.Status.TheVariants.{Done, Unbuilt}
+use Rattle.sc_app.specs.declared.status.Status.TheVariants.{Done, Budget, Wide}
+use Rattle.sc_app.specs.declared.status.Status.TheVariants as statuses
 
 -- four lines one after another are the report
 pub four_lines : (g : Sides) (f : Frac) (t0 t1 t2 t3 t4 : List ℕ) (a b c : ℤ) → t0 ≡ []
@@ -42,13 +49,36 @@ pub reported : (input : List ℕ) (f : Surface) (items : List ℕ) → Says inpu
     → ((q : Frac) × IsQuotient (cost f.sides) (pos (2 * f.copies)) q × (items ≡ report f.sides q)) → SurfaceResponds input Done items
 reported input f items said told = (f.chain, f.copies, f.sides, told.0, said.0, said.1, told.1, told.2)
 
-pub valued : (input : List ℕ) (lines : List RawLine) (c : Chain) → IsChainText input lines → c ≡ chain_of lines → IsWithin (chain_of lines)
-    → (s : Status) (text : List ℕ) → IsValueOf c s text → SclResponds input s text
-valued input lines c read same within Done text v = (lines, read, within, subst (λ (d : Chain). IsValueOf d Done text) same v)
-valued input lines c read same within Unbuilt text v = (lines, read, within, subst (λ (d : Chain). IsValueOf d Unbuilt text) same v)
-valued input lines c read same within _ text v = absurd v
+pub valued : (n : ℕ) (input : List ℕ) (lines : List RawLine) (c : Chain) → IsChainText input lines → c ≡ chain_of lines → IsWithin (chain_of lines)
+    → (s : Status) (text : List ℕ) → IsValueOf n c s text → SclResponds n input s text
+valued n input lines c read same within Done text v = (lines, read, within, subst (λ (d : Chain). IsValueOf n d Done text) same v)
+valued n input lines c read same within Budget text v = (lines, read, within, subst (λ (d : Chain). IsValueOf n d Budget text) same v)
+valued n input lines c read same within Wide text v = (lines, read, within, subst (λ (d : Chain). IsValueOf n d Wide text) same v)
+valued n input lines c read same within statuses.Sides text v = (lines, read, within, subst (λ (d : Chain). IsValueOf n d statuses.Sides text) same v)
+valued n input lines c read same within _ text v = absurd v
 
 -- why an input says no surface is what `surface` answers
 pub refused : (input text : List ℕ) (s : Status) → Refuses input s text → SurfaceResponds input s text
 refused input text Done r = absurd r
 refused input text s r = r
+
+-- ---- solutions and refusals
+
+-- what a printer of certificates puts out for a solution over a chain, whose sides are given once more
+pub printed : (f : Certificate → List ℕ) (s : Solution) (c : Chain) (g : Sides) (old out : List ℕ) → s.fatgraph.chain ≡ c → s.fatgraph.copies ≡ s.n → g ≡ s.fatgraph.sides → old ≡ []
+    → out ≡ old ++ f (stated (surface c s.n g) s.value s.list s.tables s.journal.items) → out ≡ f (certificate_of s)
+printed f s c g old out over copies same empty e =
+    e ∙ (λ i. empty i ++ f (stated (surface (sym over i) (sym copies i) (same i)) s.value s.list s.tables s.journal.items))
+
+-- what stopped a solver, told with its evidence
+pub stopped_value : (n : ℕ) (c : Chain) (fault : SolveFault) (s : Status) (text : List ℕ) → IsBalanced c → IsStopped c n fault → IsToldBy c fault s text → IsValueOf n c s text
+stopped_value n c (faults.Budget journal improving) s text balanced stopped told =
+    subst (λ (x : Status). IsValueOf n c x text) (sym told.0)
+    (record { balanced = balanced; journal = journal.items; improving = improving; evidence = stopped; text_is = told.1 })
+stopped_value n c (faults.Wide journal operation) s text balanced stopped told =
+    subst (λ (x : Status). IsValueOf n c x text) (sym told.0)
+    (record { balanced = balanced; journal = journal.items; operation = operation; evidence = stopped; text_is = told.1 })
+stopped_value n c (faults.Sides journal part so_far next) s text balanced stopped told =
+    subst (λ (x : Status). IsValueOf n c x text) (sym told.0)
+    (record { balanced = balanced; journal = journal.items; part = part; so_far = so_far; next = next; evidence = stopped; text_is = told.1 })
+stopped_value n c faults.Memory s text balanced stopped told = absurd told

@@ -7,7 +7,7 @@ use Rattle.sc_app.specs.declared.command.Command.TheVariants.{Surface, Check, Sc
 use Rattle.sc_app.specs.declared.command.Reading.{Reading}
 use Rattle.sc_app.specs.declared.command.Reading.TheVariants.{Nothing, AtMost}
 use Rattle.sc_app.specs.declared.status.Status.{Status}
-use Rattle.sc_app.specs.declared.status.Status.TheVariants.{Done, Malformed, Large, WriteFault, Rejected, Unbuilt}
+use Rattle.sc_app.specs.declared.status.Status.TheVariants.{Done, Malformed, Large, WriteFault, Rejected, Budget, Wide, Sides}
 use Rattle.sc_app.specs.declared.status.What.TheVariants.{Words, Positions}
 use Rattle.sc_prices.specs.declared.verdict.Condition.TheVariants.{Flaw}
 use Rattle.sc_app.specs.Kinds.{StatusKind, WithText, WithoutText, PastLimit, Unasked, NotRead, NotWritten, NoMemory, kind_of}
@@ -40,18 +40,20 @@ check_suits input text (Rejected condition) r = tt
 check_suits input text Done r = tt
 check_suits input text _ r = absurd r
 
-scl_suits : (input text : List ℕ) (s : Status) → SclResponds input s text → Suits (kind_of s) text
-scl_suits input text (Malformed at kind) r = r.1
-scl_suits input text (Large (Words n)) r = r.3
-scl_suits input text (Large (Positions n)) r = r.3
-scl_suits input text Done r = tt
-scl_suits input text Unbuilt r = r.3.1
-scl_suits input text _ r = absurd r.3
+scl_suits : (n : ℕ) (input text : List ℕ) (s : Status) → SclResponds n input s text → Suits (kind_of s) text
+scl_suits n input text (Malformed at kind) r = r.1
+scl_suits n input text (Large (Words count)) r = r.3
+scl_suits n input text (Large (Positions count)) r = r.3
+scl_suits n input text Done r = tt
+scl_suits n input text Budget r = tt
+scl_suits n input text Wide r = tt
+scl_suits n input text Sides r = tt
+scl_suits n input text _ r = absurd r.3
 
 suits : (c : Command) (input text : List ℕ) (s : Status) → Responds c input s text → Suits (kind_of s) text
 suits Surface input text s r = surface_suits input text s r
 suits Check input text s r = check_suits input text s r
-suits (Scl pivots) input text s r = scl_suits input text s r
+suits (Scl pivots) input text s r = scl_suits pivots input text s r
 
 -- ---- so a command ends
 

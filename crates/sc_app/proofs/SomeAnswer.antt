@@ -45,15 +45,15 @@ use Rattle.sc_app.specs.declared.command.Reading.{Reading}
 use Rattle.sc_app.specs.declared.command.Reading.TheVariants.{Nothing, AtMost}
 use Rattle.sc_app.specs.declared.said.Heading.TheVariants.{CertificateText, SurfaceText}
 use Rattle.sc_app.specs.declared.status.Status.{Status}
-use Rattle.sc_app.specs.declared.status.Status.TheVariants.{Done, Malformed, Large, Rejected, Unbuilt}
+use Rattle.sc_app.specs.declared.status.Status.TheVariants.{Done, Malformed, Large, Rejected}
 use Rattle.sc_app.specs.declared.status.What.TheVariants.{Bytes, Words, Positions}
 use Rattle.sc_app.specs.Reading.{reads}
 use Rattle.sc_app.specs.Rejections.{rejection}
 use Rattle.sc_app.specs.Said.{IsCertificateText, Says, is_headed_as_certificate, plan_of, plan_for}
 use Rattle.sc_app.specs.Surface.{SurfaceResponds, report}
 use Rattle.sc_app.specs.Check.{CheckResponds, optimal}
-use Rattle.sc_app.specs.Scl.{SclResponds, infinite}
-use Rattle.sc_app.specs.Answers.{Responds, RespondsBy, AnswersTo}
+use Rattle.sc_app.specs.Scl.{SclResponds, HasSeveralAnswers, infinite}
+use Rattle.sc_app.specs.Answers.{Responds, RespondsBy, AnswersTo, IsDetermined, DeterminedBy}
 
 -- ---- first places
 
@@ -241,7 +241,7 @@ module _ (c : Chain) (letters : AreGenerators c) (never : (g : ℕ) (t : ℤ) �
         })) g)
   ]
 
-module _ (input : List ℕ) (none : (s : Status) (text : List ℕ) → ¬ SclResponds input s text) where
+module _ (n : ℕ) (input : List ℕ) (one : ¬ HasSeveralAnswers input) (none : (s : Status) (text : List ℕ) → ¬ SclResponds n input s text) where
   abbrev NoCase : ℕ → Type 0
   NoCase n = (1 ≤ n) × (n ≤ length (text_lines input)) × (line_case (line_at input n) ≡ None)
 
@@ -276,8 +276,8 @@ module _ (input : List ℕ) (none : (s : Status) (text : List ℕ) → ¬ SclRes
   small_answered within =
       let balanced : IsBalanced (chain_of lines) =
       is_balanced (chain_of lines) (generators_of_chain lines (raw_lines_in_range 1 (text_lines input)))
-      (λ g t first. none Done (infinite g t) (lines, good_text, within, (g, t, first, refl))) in
-      none Unbuilt [] (lines, good_text, within, (balanced, refl))
+      (λ g t first. none Done (infinite g t) (lines, good_text, within, inl (record { generator = g; total = t; first = first; text_is = refl }))) in
+      one (lines, good_text, within, balanced)
 
   pub scl_answered : ⊥
   scl_answered = elim (cases_lt MAX_WORDS (length (chain_of lines))) [
@@ -311,17 +311,17 @@ frac_exists z m some =
     regroup : (k a b : ℤ) → a *ℤ (k *ℤ b) ≡ (k *ℤ a) *ℤ b
     regroup k a b = simp products (omega (arith, ints))
 
-answered : (c : Command) (input : List ℕ) → ((s : Status) (text : List ℕ) → ¬ Responds c input s text) → ⊥
-answered Surface input none = surface_answered input none (λ z n some. frac_exists z (2 * n) (omega (arith, some)))
-answered Check input none = check_answered input none
-answered (Scl pivots) input none = scl_answered input none
+answered : (c : Command) (input : List ℕ) → IsDetermined c input → ((s : Status) (text : List ℕ) → ¬ Responds c input s text) → ⊥
+answered Surface input one none = surface_answered input none (λ z n some. frac_exists z (2 * n) (omega (arith, some)))
+answered Check input one none = check_answered input none
+answered (Scl pivots) input one none = scl_answered pivots input one none
 
-pub some_answer : (c : Command) (input : List ℕ) → ((s : Status) (text : List ℕ) → ¬ AnswersTo c input s text) → ⊥
-some_answer c input none = by_reading (reads c) none
+pub some_answer : (c : Command) (input : List ℕ) → DeterminedBy (reads c) c input → ((s : Status) (text : List ℕ) → ¬ AnswersTo c input s text) → ⊥
+some_answer c input one none = by_reading (reads c) one none
   where
-    by_reading : (reading : Reading) → ((s : Status) (text : List ℕ) → ¬ RespondsBy reading c input s text) → ⊥
-    by_reading Nothing none = answered c [] none
-    by_reading (AtMost limit) none = elim (cases_lt limit (length input)) [
+    by_reading : (reading : Reading) → DeterminedBy reading c input → ((s : Status) (text : List ℕ) → ¬ RespondsBy reading c input s text) → ⊥
+    by_reading Nothing one none = answered c [] one none
+    by_reading (AtMost limit) one none = elim (cases_lt limit (length input)) [
       | inl long ↦ none (Large Bytes) [] (inl (long, refl, refl))
-      | inr short ↦ answered c input (λ s text r. none s text (inr (short, r)))
+      | inr short ↦ answered c input one (λ s text r. none s text (inr (short, r)))
     ]

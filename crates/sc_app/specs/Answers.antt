@@ -14,13 +14,13 @@ use Rattle.sc_app.specs.Notes.{note_of}
 use Rattle.sc_app.specs.Reading.{reads, given, MayRead, IsUntouched}
 use Rattle.sc_app.specs.Surface.{SurfaceResponds, SurfaceAccepts, IsSurfaceStatus}
 use Rattle.sc_app.specs.Check.{CheckResponds, CheckAccepts, IsCheckStatus}
-use Rattle.sc_app.specs.Scl.{SclResponds, SclAccepts, IsSclStatus}
+use Rattle.sc_app.specs.Scl.{SclResponds, SclAccepts, HasSeveralAnswers, IsSclStatus}
 
 -- what a command answers to an input that isn't over its limit: the status, and the text for `out`
 abbrev pub Responds : Command → List ℕ → Status → List ℕ → Type 0
 Responds Surface input status text = SurfaceResponds input status text
 Responds Check input status text = CheckResponds input status text
-Responds (Scl pivots) input status text = SclResponds input status text
+Responds (Scl pivots) input status text = SclResponds pivots input status text
 
 -- the same for any input, by what the command reads: one that reads nothing has the empty input
 abbrev pub RespondsBy : Reading → Command → List ℕ → Status → List ℕ → Type 0
@@ -39,11 +39,11 @@ Answers words input status text = (c : Command) × IsForm c words × AnswersTo c
 
 -- ---- inputs with one answer, and inputs that are accepted
 
--- the inputs that have one right answer: all of these commands'
+-- the inputs that have one right answer: all but the balanced chains of `scl`
 abbrev pub IsDetermined : Command → List ℕ → Type 0
 IsDetermined Surface input = Unit {0}
 IsDetermined Check input = Unit {0}
-IsDetermined (Scl pivots) input = Unit {0}
+IsDetermined (Scl pivots) input = ¬ HasSeveralAnswers input
 
 -- the same for any input, by what the command reads
 abbrev pub DeterminedBy : Reading → Command → List ℕ → Type 0
@@ -69,14 +69,14 @@ abbrev pub IsAccepted : Command → List ℕ → Type 0
 IsAccepted c input = AllowsBy (reads c) c input
 
 -- what a command may answer to an input that it accepts, besides for want of memory
-abbrev pub IsOwnStatus : Command → Status → Type 0
-IsOwnStatus Surface status = IsSurfaceStatus status
-IsOwnStatus Check status = IsCheckStatus status
-IsOwnStatus (Scl pivots) status = IsSclStatus status
+abbrev pub IsOwnStatus : Command → List ℕ → Status → Type 0
+IsOwnStatus Surface input status = IsSurfaceStatus status
+IsOwnStatus Check input status = IsCheckStatus status
+IsOwnStatus (Scl pivots) input status = IsSclStatus input status
 
 -- an answer of the command's own to the input came, and `out` took its text
 abbrev pub IsOwnAnswer : Command → List ℕ → Option (List ℕ) → Option (List ℕ) → Status → Type 0
-IsOwnAnswer c input old new status = (text : List ℕ) × IsOwnStatus c status × AnswersTo c input status text × Took old new text
+IsOwnAnswer c input old new status = (text : List ℕ) × IsOwnStatus c input status × AnswersTo c input status text × Took old new text
 
 -- ---- how a command ends
 

@@ -58,3 +58,9 @@ abbrev pub AreWordsOfScl : ℕ → List (List ℕ) → Type 0
 AreWordsOfScl n words =
     ((words ≡ codes "scl" ∷ []) × (n ≡ DEFAULT_PIVOTS))
     ⊎ ((words ≡ codes "scl" ∷ codes "--pivots" ∷ spelling (pos n) ∷ []) × (1 ≤ n) × (n ≤ MAX_PIVOTS))
+
+-- the number of pivots is one that the words can name
+abbrev pub IsInRange : Command → Type 0
+IsInRange Surface = Unit {0}
+IsInRange Check = Unit {0}
+IsInRange (Scl n) = (1 ≤ n) × (n ≤ MAX_PIVOTS)

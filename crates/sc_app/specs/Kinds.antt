@@ -1,6 +1,6 @@
 -- The kinds of statuses: how far a call came.
 use Rattle.sc_app.specs.declared.status.Status.{Status}
-use Rattle.sc_app.specs.declared.status.Status.TheVariants.{Done, Usage, Malformed, Large, ReadFault, WriteFault, Memory, Rejected, Unbuilt}
+use Rattle.sc_app.specs.declared.status.Status.TheVariants.{Done, Usage, Malformed, Large, Wide, Budget, Sides, ReadFault, WriteFault, Memory, Rejected}
 use Rattle.sc_app.specs.declared.status.What.TheVariants.{Bytes, Words, Positions}
 
 -- the command's answer with a text, or without one; more bytes than it reads; no command; a source that failed; a sink that
@@ -17,10 +17,12 @@ pub data StatusKind : Type 0 where
 abbrev pub kind_of : Status → StatusKind
 kind_of Done = WithText
 kind_of (Rejected condition) = WithText
+kind_of Wide = WithText
+kind_of Budget = WithText
+kind_of Sides = WithText
 kind_of (Malformed line kind) = WithoutText
 kind_of (Large (Words count)) = WithoutText
 kind_of (Large (Positions count)) = WithoutText
-kind_of Unbuilt = WithoutText
 kind_of (Large Bytes) = PastLimit
 kind_of Usage = Unasked
 kind_of ReadFault = NotRead

@@ -4,7 +4,7 @@ use Rattle.sc_whole.specs.Spelling.{natural_spelling}
 use Rattle.sc_line.specs.declared.fault.Kind.{Kind}
 use Rattle.sc_line.specs.declared.fault.Kind.TheVariants.{Coefficient, MissingWord, Letter, Extra, NotAscii, Separator, Form, Range, NotReduced, Ended, Rest}
 use Rattle.sc_app.specs.declared.status.Status.{Status}
-use Rattle.sc_app.specs.declared.status.Status.TheVariants.{Done, Usage, Malformed, Large, ReadFault, WriteFault, Memory, Rejected, Unbuilt}
+use Rattle.sc_app.specs.declared.status.Status.TheVariants.{Done, Usage, Malformed, Large, Wide, Budget, Sides, ReadFault, WriteFault, Memory, Rejected}
 use Rattle.sc_app.specs.declared.status.What.TheVariants.{Bytes, Words, Positions}
 
 -- a text and LF
@@ -37,11 +37,13 @@ note_of (Malformed at kind) = line (codes "scallop: malformed line " ++ natural_
 note_of (Large Bytes) = line (codes "scallop: large bytes")
 note_of (Large (Words count)) = line (codes "scallop: large words " ++ natural_spelling count)
 note_of (Large (Positions count)) = line (codes "scallop: large positions " ++ natural_spelling count)
+note_of Wide = line (codes "scallop: wide")
+note_of Budget = line (codes "scallop: budget")
+note_of Sides = line (codes "scallop: sides")
 note_of ReadFault = line (codes "scallop: read fault")
 note_of WriteFault = line (codes "scallop: write fault")
 note_of Memory = line (codes "scallop: memory")
 note_of (Rejected condition) = line (codes "scallop: rejected")
-note_of Unbuilt = line (codes "scallop: unbuilt")
 
 -- the digits of a number, where there is one
 abbrev pub number_text : Option ℕ → List ℕ

@@ -21,8 +21,12 @@ pub enum Answer {
     ManyPositions(u32),
     /// The first condition that fails, and its line.
     Rejection { condition: Condition, text: Vec<u8> },
-    /// The chain is balanced, and what computes its value isn't built yet.
-    Unsolved,
+    /// The pivots are used up: the text shows them, and a polygon that improves.
+    OverBudget(Vec<u8>),
+    /// An operation is too wide: the text shows the pivots before it, and the operation.
+    TooWide(Vec<u8>),
+    /// The surface would have too many sides: the text shows the pivots, and the part that leads there.
+    ManySides(Vec<u8>),
 }
 
 impl Answer {
@@ -49,7 +53,9 @@ impl Answer {
             Answer::ManyWords(count) => Status::Large(What::Words(*count)),
             Answer::ManyPositions(count) => Status::Large(What::Positions(*count)),
             Answer::Rejection { condition, .. } => Status::Rejected(*condition),
-            Answer::Unsolved => Status::Unbuilt,
+            Answer::OverBudget(_) => Status::Budget,
+            Answer::TooWide(_) => Status::Wide,
+            Answer::ManySides(_) => Status::Sides,
         }
     }
 
@@ -58,8 +64,11 @@ impl Answer {
         ensures { result.now ≡ text_of self.now }
     {
         match self {
-            Answer::Text(text) => text.as_slice(),
-            Answer::Rejection { text, .. } => text.as_slice(),
+            Answer::Text(text)
+            | Answer::Rejection { text, .. }
+            | Answer::OverBudget(text)
+            | Answer::TooWide(text)
+            | Answer::ManySides(text) => text.as_slice(),
             _ => &[],
         }
     }

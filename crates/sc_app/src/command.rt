@@ -1,7 +1,7 @@
 //! The words of the command line, and what each command reads.
 
-ghost use Rattle.std.specs.Prelude.{◌≡◌};
-ghost use Rattle.sc_app.specs.Forms.{bytes_of, named, named_with, pivots_of, form};
+ghost use Rattle.std.specs.Prelude.{◌≡◌, IfSome};
+ghost use Rattle.sc_app.specs.Forms.{bytes_of, named, named_with, pivots_of, form, IsInRange};
 ghost use Rattle.sc_app.specs.Reading.{reads, IsReadable};
 
 use crate::limits::{DEFAULT_PIVOTS, MAX_CHAIN_BYTES, MAX_TEXT_BYTES};
@@ -46,7 +46,8 @@ impl Command {
 
 /// The command of one word.
 fn command_named(word: &str) -> Option<Command>
-    ensures { result ≡ named word.now }
+    ensures form { result ≡ named word.now }
+    ensures in_range { IfSome result IsInRange }
 {
     match word {
         "surface" => Some(Command::Surface),
@@ -60,7 +61,8 @@ fn command_named(word: &str) -> Option<Command>
 
 /// The number of pivots that a word names: from 1 to the most, in its one spelling.
 fn pivots_of(word: &str) -> Option<u32>
-    ensures { result ≡ pivots_of word.now }
+    ensures number { result ≡ pivots_of word.now }
+    ensures in_range { IfSome result (λ n. IsInRange (Command.Scl n)) }
 {
     match number_of(word.as_bytes()) {
         Ok(number) => in_range(number, 1, MAX_PIVOTS).ok(),
@@ -70,7 +72,8 @@ fn pivots_of(word: &str) -> Option<u32>
 
 /// The command of a word, an option and its number.
 fn command_named_with(word: &str, option: &str, number: &str) -> Option<Command>
-    ensures { result ≡ named_with word.now option.now number.now }
+    ensures form { result ≡ named_with word.now option.now number.now }
+    ensures in_range { IfSome result IsInRange }
 {
     if word == "scl" && option == "--pivots" {
         let pivots = pivots_of(number)?;
@@ -82,7 +85,8 @@ fn command_named_with(word: &str, option: &str, number: &str) -> Option<Command>
 
 /// The command that the words, without the program's name, are the form of. `None` where they match no form.
 pub fn command_of(words: &Vec<String>) -> Option<Command>
-    ensures { result ≡ form (bytes_of words.now.items) }
+    ensures form { result ≡ form (bytes_of words.now.items) }
+    ensures in_range { IfSome result IsInRange }
 {
     match words.as_slice() {
         [word] => command_named(word.as_str()),

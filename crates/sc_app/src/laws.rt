@@ -15,9 +15,9 @@ pub fn an_input_has_at_most_one_answer()
         → Answers words input status text → Answers words input elsewise other → text ≡ other }
 {}
 
-/// No input is left without an answer: it can't be that none is one.
+/// No input that has at most one right answer is left without: it can't be that none is one.
 pub fn an_input_has_an_answer()
-    ensures { (words : List (List ℕ)) (input : List ℕ) (c : Command) → IsForm c words
+    ensures { (words : List (List ℕ)) (input : List ℕ) (c : Command) → IsForm c words → HasOneAnswer words input
         → ¬ ((status : Status) (text : List ℕ) → ¬ Answers words input status text) }
 {}
 

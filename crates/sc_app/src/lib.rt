@@ -25,4 +25,6 @@ pub use status::{Status, What};
 #[cfg(test)]
 mod near_limits;
 #[cfg(test)]
+mod scl_tests;
+#[cfg(test)]
 mod tests;

@@ -68,11 +68,13 @@ fn note_of_status(status: &Status) -> Note
             number: Some(*count),
             after: b"\n",
         },
+        Status::Wide => plain(b"scallop: wide\n"),
+        Status::Budget => plain(b"scallop: budget\n"),
+        Status::Sides => plain(b"scallop: sides\n"),
         Status::ReadFault => plain(b"scallop: read fault\n"),
         Status::WriteFault => plain(b"scallop: write fault\n"),
         Status::Memory => plain(b"scallop: memory\n"),
         Status::Rejected(_) => plain(b"scallop: rejected\n"),
-        Status::Unbuilt => plain(b"scallop: unbuilt\n"),
     }
 }
 

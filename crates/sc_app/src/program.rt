@@ -5,13 +5,13 @@ ghost use Rattle.sc_outside.specs.Faults.{Rose};
 ghost use Rattle.sc_outside.specs.Told.{Took, TookPart};
 ghost use Rattle.sc_app.specs.Answer.{status_of, text_of};
 ghost use Rattle.sc_app.specs.Codes.{code_of};
-ghost use Rattle.sc_app.specs.Forms.{IsForm, HasNoForm, bytes_of};
+ghost use Rattle.sc_app.specs.Forms.{IsForm, HasNoForm, IsInRange, bytes_of};
 ghost use Rattle.sc_app.specs.Kinds.{kind_of, IsDecided, IsQuiet, IsReadToTheEnd, IsExcused};
 ghost use Rattle.sc_app.specs.Reading.{reads, given, input_for, most_turns, most_calls, Fits, MayRead, NeedsNoSource, ReadsAll, ReadPastLimit, ReadWithinLimit, IsUntouched};
 ghost use Rattle.sc_app.specs.Notes.{note_of};
 ghost use Rattle.sc_app.specs.Answers.{Responds, Answers, HasOneAnswer, IsAccepted, IsOwnAnswer, EndsBy, MayAnswer, TookUpTo, IsCall};
 ghost use Rattle.sc_app.specs.Check.{ShowsLeast};
-ghost use Rattle.sc_app.specs.Scl.{ShowsInfinite};
+ghost use Rattle.sc_app.specs.Scl.{ShowsScl, OfItsChain, IsInfinite, IsSolved, IsOverBudget, IsTooWide, HasTooManySides};
 ghost use Rattle.sc_app.specs.declared.command.Command.{Command as AnyCommand};
 ghost use Rattle.sc_app.specs.declared.command.Command.TheVariants as commands;
 ghost use Rattle.sc_app.specs.declared.command.Reading.TheVariants as readings;
@@ -29,13 +29,14 @@ use std::alloc::{AllocError, Global};
 
 /// The answer of a command to its input.
 fn respond(alloc: Global, command: Command, input: &[u8]) -> Result<Answer, AllocError>
-    requires { Fits (reads command) input.now }
+    requires fits { Fits (reads command) input.now }
+    requires in_range { IsInRange command }
     ensures { IfOk result (λ answer. Responds command input.now (status_of answer) (text_of answer)) }
 {
     match command {
         Command::Surface => answer_surface(alloc, input),
         Command::Check => answer_check(alloc, input),
-        Command::Scl { .. } => answer_scl(alloc, input),
+        Command::Scl { pivots } => answer_scl(alloc, pivots, input),
     }
 }
 
@@ -53,7 +54,8 @@ fn deliver<O: Sink>(answer: &Answer, out: &mut O) -> Status
 
 /// Answers the input that a command was given.
 fn answer_input<O: Sink>(alloc: Global, command: Command, input: &[u8], out: &mut O) -> Status
-    requires { Fits (reads command) input.now }
+    requires fits { Fits (reads command) input.now }
+    requires in_range { IsInRange command }
     ensures read { NeedsNoSource (kind_of result) }
     ensures answer { EndsBy (kind_of result) command (Some input.now) ⊥
         (Rose (O.faults out.old) (O.faults out.new) (O.stands out.new))
@@ -75,6 +77,7 @@ fn serve_input<S: Source, O: Sink>(
 ) -> Status
     requires limit { reads command ≡ readings.AtMost limit }
     requires readable { limit < 2 ^ 31 }
+    requires in_range { IsInRange command }
     ensures turns { S.calls source.new ≤ S.calls source.old + limit + 1 }
     ensures read { MayRead (readings.AtMost limit) (kind_of result) (S.left source.old) (S.left source.new)
         (S.faults source.old) (S.faults source.new) }
@@ -92,6 +95,7 @@ fn serve_input<S: Source, O: Sink>(
 }
 
 fn serve<S: Source, O: Sink>(alloc: Global, command: Command, source: &mut S, out: &mut O) -> Status
+    requires { IsInRange command }
     ensures turns { S.calls source.new ≤ S.calls source.old + most_calls (reads command) }
     ensures read { MayRead (reads command) (kind_of result) (S.left source.old) (S.left source.new)
         (S.faults source.old) (S.faults source.new) }
@@ -174,9 +178,28 @@ pub fn run<S: Source, O: Sink, E: Sink>(
     // Where `check` is done, `out` took the value of a certificate whose surface is least over its chain.
     ensures least { result ≡ Status.Done → IsForm commands.Check (bytes_of words.now.items) → IfSome (S.left source.old)
         (λ input. (text : List ℕ) × ShowsLeast input text × Took (O.taken out.old) (O.taken out.new) text) }
-    // Where `scl` is done, `out` took the first generator whose total over the lines as written isn't 0, with that total.
-    ensures infinite { result ≡ Status.Done → (pivots : ℕ) → IsForm (commands.Scl pivots) (bytes_of words.now.items) → IfSome (S.left source.old)
-        (λ input. (text : List ℕ) × ShowsInfinite input text × Took (O.taken out.old) (O.taken out.new) text) }
+    // Where `scl` is done, `out` took one of two texts. Either it is `infinite G T`: G is the first generator whose total over the
+    // lines as written isn't 0, and T that total. Or every total is 0, and it is the text of a certificate over the cyclically
+    // reduced chain of the lines: its sides are a labelled fatgraph whose boundary runs as many times round the chain as it has
+    // copies, its value is the fraction -chi/2n of that fatgraph, and no labelled fatgraph over any number of copies of the chain
+    // has a smaller one.
+    ensures scl { result ≡ Status.Done → (pivots : ℕ) → IsForm (commands.Scl pivots) (bytes_of words.now.items) → IfSome (S.left source.old)
+        (λ input. (text : List ℕ) × ShowsScl input text × Took (O.taken out.old) (O.taken out.new) text) }
+    // The certificate is that of a solution besides: its journal is lawful and has at most as many pivots as the words allow, its
+    // last basis is optimal, the list is the lift of its prices, the sides are glued of its polygons, the list is tight
+    // for them, the tables vouch for the list and hold the least totals, and all conditions of a certificate hold, in its ranges, so
+    // that the text is one that `check` reads.
+    ensures solution { result ≡ Status.Done → (pivots : ℕ) → IsForm (commands.Scl pivots) (bytes_of words.now.items) → IfSome (S.left source.old)
+        (λ input. (text : List ℕ) × OfItsChain input (λ c. IsInfinite c text ⊎ IsSolved c pivots text) × Took (O.taken out.old) (O.taken out.new) text) }
+    // Budget, Wide and Sides come for balanced chains alone, each with the evidence of the text that `out` took: so many lawful
+    // pivots and a polygon that improves; lawful pivots and an operation that is too wide after them; lawful pivots to an optimal
+    // basis and the part whose denominator leads to too many sides.
+    ensures budget { result ≡ Status.Budget → (pivots : ℕ) → IsForm (commands.Scl pivots) (bytes_of words.now.items) → IfSome (S.left source.old)
+        (λ input. (text : List ℕ) × OfItsChain input (λ c. IsOverBudget c pivots text) × Took (O.taken out.old) (O.taken out.new) text) }
+    ensures wide { result ≡ Status.Wide → (pivots : ℕ) → IsForm (commands.Scl pivots) (bytes_of words.now.items) → IfSome (S.left source.old)
+        (λ input. (text : List ℕ) × OfItsChain input (λ c. IsTooWide c pivots text) × Took (O.taken out.old) (O.taken out.new) text) }
+    ensures sides { result ≡ Status.Sides → (pivots : ℕ) → IsForm (commands.Scl pivots) (bytes_of words.now.items) → IfSome (S.left source.old)
+        (λ input. (text : List ℕ) × OfItsChain input (λ c. HasTooManySides c pivots text) × Took (O.taken out.old) (O.taken out.new) text) }
     // After a fault of `out` it has taken a part of the text of an answer.
     ensures broken { result ≡ Status.WriteFault → IfSome (input_for (bytes_of words.now.items) (S.left source.old)) (λ input.
         (status : AnyStatus) × (text : List ℕ)

@@ -28,6 +28,12 @@ pub enum Status {
     Malformed { line: u32, kind: Kind },
     /// The input is over a limit.
     Large(What),
+    /// An operation of the solver on whole numbers is too wide; the text shows it.
+    Wide,
+    /// The pivots are used up, and a polygon improves still; the text shows them.
+    Budget,
+    /// The surface would have more sides than a text may; the text shows why.
+    Sides,
     /// The source failed.
     ReadFault,
     /// The sink of the text failed; it has taken a prefix of the text.
@@ -37,8 +43,6 @@ pub enum Status {
     /// The surface isn't a labelled fatgraph, or the certificate doesn't show that it is least: the first condition that
     /// fails.
     Rejected(Condition),
-    /// The chain is balanced, and what computes its value isn't built yet.
-    Unbuilt,
 }
 
 impl Status {
@@ -51,11 +55,13 @@ impl Status {
             Status::Usage => 2,
             Status::Malformed { .. } => 3,
             Status::Large(_) => 4,
+            Status::Wide => 5,
+            Status::Budget => 6,
+            Status::Sides => 7,
             Status::ReadFault => 8,
             Status::WriteFault => 9,
             Status::Memory => 10,
             Status::Rejected(_) => 11,
-            Status::Unbuilt => 12,
         }
     }
 }

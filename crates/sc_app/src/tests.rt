@@ -49,11 +49,11 @@ const MISVALUED: &[u8] =
 /// How the streams of a call behave: bytes a reading call, reading calls that fail, bytes a writing call, writing calls
 /// that fail.
 #[derive(Clone, Copy)]
-struct Streams<'a> {
-    read_piece: u8,
-    read_fails: &'a [u64],
-    write_piece: u8,
-    write_fails: &'a [u64],
+pub(crate) struct Streams<'a> {
+    pub read_piece: u8,
+    pub read_fails: &'a [u64],
+    pub write_piece: u8,
+    pub write_fails: &'a [u64],
 }
 
 /// The words of a command line.
@@ -66,7 +66,7 @@ fn words_of(alloc: Global, line: &str) -> Result<Vec<String>, AllocError> {
 }
 
 /// The status of a call, what `out` took and what `notes` took.
-fn call(
+pub(crate) fn call(
     alloc: Global,
     line: &str,
     input: &[u8],
@@ -81,7 +81,7 @@ fn call(
     );
     let mut out = MemorySink::new(
         alloc,
-        1000,
+        100_000,
         usize::from(streams.write_piece),
         streams.write_fails.to_vec(alloc)?,
     )?;
@@ -94,7 +94,7 @@ fn call(
     ))
 }
 
-const CALM: Streams<'static> = Streams {
+pub(crate) const CALM: Streams<'static> = Streams {
     read_piece: 200,
     read_fails: &[],
     write_piece: 100,
@@ -190,13 +190,6 @@ fn answers_what_the_commands_say(rt: HostRuntime) -> Result<(), Fail> {
             Status::Done,
             "infinite b -2\n",
             "",
-        ),
-        (
-            "scl",
-            b"abAB\n".as_slice(),
-            Status::Unbuilt,
-            "",
-            "scallop: unbuilt\n",
         ),
         (
             "scl",
@@ -375,7 +368,9 @@ fn knows_its_forms_and_codes(rt: HostRuntime) -> Result<(), Fail> {
     for (status, code) in [
         (Status::Done, 0),
         (Status::ReadFault, 8),
-        (Status::Unbuilt, 12),
+        (Status::Wide, 5),
+        (Status::Budget, 6),
+        (Status::Sides, 7),
     ] {
         assert_eq!(rt; status.code(), code);
     }

@@ -10,4 +10,4 @@ returns-in-Ok-clause-read g c =
 pub returns-in-Ok-clause-answer : goal.returns-in-Ok-clause-answer
 returns-in-Ok-clause-answer g c =
     ends c.args.command _ (g.O.Sink.taken c.args.out.now) (g.O.Sink.taken c.deliver.new.out) c.args.input.now (text_of c.in-Ok.answer) (status_of c.in-Ok.answer) c.deliver.result
-    c.requires c.in-Ok.ensures c.deliver.ensures
+    c.requires.fits c.in-Ok.ensures c.deliver.ensures

@@ -1,6 +1,8 @@
+use Rattle.std.proofs.Common.{refl}
+use Rattle.sc_app.specs.declared.status.Status.TheVariants.{Done, Budget, Wide, Sides}
 use Rattle.sc_app.specs.declared.command.Command.TheVariants.{Check, Scl}
 use Rattle.sc_app.proofs.Calls as calls
-use Rattle.sc_app.proofs.Least.{least, infinite}
+use Rattle.sc_app.proofs.Least.{least, headline, solved, over_budget, too_wide, too_many_sides}
 use Rattle.sc_app.proofs.program.run.Goals as goal
 
 pub returns-clause-usage : goal.returns-clause-usage
@@ -45,9 +47,29 @@ returns-clause-quiet g c = calls.quiet _ _ _ _ _ _ _ _ _ _ c.serve_words-status.
 pub returns-clause-least : goal.returns-clause-least
 returns-clause-least g c = λ e form.
     least (g.S.Source.left c.args.source.now) (g.O.Sink.taken c.args.out.now) (g.O.Sink.taken c.serve_words-status.new.out)
-    (calls.done _ _ _ _ _ _ _ _ _ _ c.serve_words-status.ensures.answer Check form e)
+    (calls.told _ _ _ _ _ _ _ _ _ _ c.serve_words-status.ensures.answer Check Done form refl e)
 
-pub returns-clause-infinite : goal.returns-clause-infinite
-returns-clause-infinite g c = λ e n form.
-    infinite n (g.S.Source.left c.args.source.now) (g.O.Sink.taken c.args.out.now) (g.O.Sink.taken c.serve_words-status.new.out)
-    (calls.done _ _ _ _ _ _ _ _ _ _ c.serve_words-status.ensures.answer (Scl n) form e)
+pub returns-clause-scl : goal.returns-clause-scl
+returns-clause-scl g c = λ e n form.
+    headline n (g.S.Source.left c.args.source.now) (g.O.Sink.taken c.args.out.now) (g.O.Sink.taken c.serve_words-status.new.out)
+    (calls.told _ _ _ _ _ _ _ _ _ _ c.serve_words-status.ensures.answer (Scl n) Done form refl e)
+
+pub returns-clause-solution : goal.returns-clause-solution
+returns-clause-solution g c = λ e n form.
+    solved n (g.S.Source.left c.args.source.now) (g.O.Sink.taken c.args.out.now) (g.O.Sink.taken c.serve_words-status.new.out)
+    (calls.told _ _ _ _ _ _ _ _ _ _ c.serve_words-status.ensures.answer (Scl n) Done form refl e)
+
+pub returns-clause-budget : goal.returns-clause-budget
+returns-clause-budget g c = λ e n form.
+    over_budget n (g.S.Source.left c.args.source.now) (g.O.Sink.taken c.args.out.now) (g.O.Sink.taken c.serve_words-status.new.out)
+    (calls.told _ _ _ _ _ _ _ _ _ _ c.serve_words-status.ensures.answer (Scl n) Budget form refl e)
+
+pub returns-clause-wide : goal.returns-clause-wide
+returns-clause-wide g c = λ e n form.
+    too_wide n (g.S.Source.left c.args.source.now) (g.O.Sink.taken c.args.out.now) (g.O.Sink.taken c.serve_words-status.new.out)
+    (calls.told _ _ _ _ _ _ _ _ _ _ c.serve_words-status.ensures.answer (Scl n) Wide form refl e)
+
+pub returns-clause-sides : goal.returns-clause-sides
+returns-clause-sides g c = λ e n form.
+    too_many_sides n (g.S.Source.left c.args.source.now) (g.O.Sink.taken c.args.out.now) (g.O.Sink.taken c.serve_words-status.new.out)
+    (calls.told _ _ _ _ _ _ _ _ _ _ c.serve_words-status.ensures.answer (Scl n) Sides form refl e)
