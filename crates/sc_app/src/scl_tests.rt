@@ -76,12 +76,7 @@ fn finds_the_least_values(rt: HostRuntime) -> Result<(), Fail> {
         ("aa\n2 A", "0/1", " 0 2\n", " 1 2\n"),
         ("-1 abAB", "1/2", "word 1 baBA\n", "end\n"),
         ("baBABAbaBabA", "5/6", "word 1 baBABAbaBabA\n", "end\n"),
-        (
-            "abABabABabABabABabABabABabABabAB",
-            "4/1",
-            "words 1\n",
-            "end\n",
-        ),
+        ("abABabABabABabAB", "2/1", "words 1\n", "end\n"),
     ];
     for (input, value, first, second) in cases {
         let (certificate, verdict) = solve_and_check(rt.alloc(), "scl", input.as_bytes())?;
@@ -96,7 +91,7 @@ fn finds_the_least_values(rt: HostRuntime) -> Result<(), Fail> {
 #[test]
 fn solves_many_words(rt: HostRuntime) -> Result<(), Fail> {
     let mut input = Vec::new(rt.alloc());
-    for _ in 0..16 {
+    for _ in 0..8 {
         input.extend_from_slice(b"a\nA\n")?;
     }
     let (_, verdict) = solve_and_check(rt.alloc(), "scl", input.as_slice())?;
