@@ -16,7 +16,7 @@ use Rattle.sc_line.specs.declared.fault.Kind.TheVariants.{Form, Range}
 use Rattle.sc_chain.specs.declared.polygon.Pivot.{Pivot}
 use Rattle.sc_chain.specs.declared.limits.TheConstants.{MAX_POSITIONS}
 use Rattle.sc_chain.specs.Polygons.{is_polygon}
-use Rattle.sc_chain.proofs.PolygonLaws.{polygons_are_decided, walk_inside}
+use Rattle.sc_chain.proofs.PolygonLaws.{polygons_are_decided, walk_inside, small_walk}
 use Rattle.sc_line.specs.declared.fault.LineFault.{LineFault}
 use Rattle.sc_line.specs.declared.fault.LineFault.TheVariants.{Malformed, Memory}
 use Rattle.sc_line.specs.LineFaults.{IsFault}
@@ -144,23 +144,48 @@ numbers_at [] k h = absurd (omega arith)
 numbers_at (i ∷ walk) zero h = refl
 numbers_at (i ∷ walk) (suc k) h = numbers_at walk k (omega arith)
 
--- fields of which one is no position are no polygon
-pub bad_field : (c : Chain) (fs : List Field) (before : List ℕ) (f : Field) (after : List Field) → positions c ≤ MAX_POSITIONS → fs ≡ numbers before ++ f ∷ after → IsNoPosition f → walk_fault c fs ≡ Some Form
-bad_field c fs before f after few e bad =
-    elim (cases_Bool (are_naturals fs && is_polygon c (naturals_of fs))) [
-      | inl form ↦
-          let both = and_parts (are_naturals fs) (is_polygon c (naturals_of fs)) form in
-          let walks = natural_fields fs both.0 in
-          let told : naturals_of fs ≡ walks.naturals = ap naturals_of walks.are ∙ numbers_tell walks.naturals in
-          let polygon = (polygons_are_decided c walks.naturals).0 (subst (λ (w : List ℕ). is_polygon c w ≡ true) told both.1) in
-          let len : length walks.naturals ≡ length before + 1 + length after =
-          omega (arith, ap length e, ap length walks.are, length-map walks.naturals (λ (i : ℕ). spelling (pos i)), length-map before (λ (i : ℕ). spelling (pos i)), length-append (numbers before) (f ∷ after)) in
-          let inside = walk_inside c walks.naturals polygon.closed (length before) (omega arith) in
-          let here : f ≡ spelling (pos (get_or walks.naturals (length before) 0)) =
-          sym (get_or_at (numbers before) f after [] (length before) (length-map before (λ (i : ℕ). spelling (pos i)))) ∙ ap (λ (gs : List Field). get_or gs (length before) []) (sym e ∙ walks.are) ∙ numbers_at walks.naturals (length before) (omega arith) in
-          absurd (bad (get_or walks.naturals (length before) 0) (omega arith) here)
-      | inr others ↦ rw others refl
-    ]
+-- fields that are a polygon
+record AreOfPolygon (c : Chain) (fs : List Field) : Type 0 where
+  pub walk : List ℕ
+  pub are : fs ≡ numbers walk
+  pub polygon : IsPolygon c walk
+
+polygon_in : (c : Chain) (fs : List Field) → (are_naturals fs && is_polygon c (naturals_of fs)) ≡ true → AreOfPolygon c fs
+polygon_in c fs form =
+    let both = and_parts (are_naturals fs) (is_polygon c (naturals_of fs)) form in
+    let walks = natural_fields fs both.0 in
+    let told : naturals_of fs ≡ walks.naturals = ap naturals_of walks.are ∙ numbers_tell walks.naturals in
+    record { walk = walks.naturals; are = walks.are; polygon = (polygons_are_decided c walks.naturals).0 (subst (λ (w : List ℕ). is_polygon c w ≡ true) told both.1) }
+
+-- fields behind the numbers of some positions, of which the first is bad or too many, are no polygon
+module _ (c : Chain) (fs : List Field) (before : List ℕ) (f : Field) (after : List Field) (few : positions c ≤ MAX_POSITIONS) (e : fs ≡ numbers before ++ f ∷ after) where
+  longer : (walk : List ℕ) → fs ≡ numbers walk → length before < length walk
+  longer walk are =
+      omega (arith, ap length e, ap length are, length-map walk (λ (i : ℕ). spelling (pos i)), length-map before (λ (i : ℕ). spelling (pos i)), length-append (numbers before) (f ∷ after))
+
+  no_polygon : (AreOfPolygon c fs → ⊥) → walk_fault c fs ≡ Some Form
+  no_polygon h = elim (cases_Bool (are_naturals fs && is_polygon c (naturals_of fs))) [
+    | inl form ↦ absurd (h (polygon_in c fs form))
+    | inr others ↦ rw others refl
+  ]
+
+  bad_here : IsNoPosition f → AreOfPolygon c fs → ⊥
+  bad_here bad p =
+      let inside = walk_inside c p.walk p.polygon.closed (length before) (longer p.walk p.are) in
+      let here : f ≡ spelling (pos (get_or p.walk (length before) 0)) =
+      sym (get_or_at (numbers before) f after [] (length before) (length-map before (λ (i : ℕ). spelling (pos i)))) ∙ ap (λ (gs : List Field). get_or gs (length before) []) (sym e ∙ p.are) ∙ numbers_at p.walk (length before) (longer p.walk p.are) in
+      bad (get_or p.walk (length before) 0) (omega arith) here
+
+  too_long : MAX_POSITIONS ≤ length before → AreOfPolygon c fs → ⊥
+  too_long long p =
+      let small = small_walk c p.walk (λ k inside. let here = walk_inside c p.walk p.polygon.closed k inside in omega arith) p.polygon in
+      omega (arith, small.few, longer p.walk p.are)
+
+  pub bad_field : IsNoPosition f → walk_fault c fs ≡ Some Form
+  bad_field bad = no_polygon (bad_here bad)
+
+  pub field_too_many : MAX_POSITIONS ≤ length before → walk_fault c fs ≡ Some Form
+  field_too_many long = no_polygon (too_long long)
 
 -- ---- the fault of the fields of a pivot
 

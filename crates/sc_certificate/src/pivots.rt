@@ -27,13 +27,17 @@ fn position(field: &[u8]) -> Result<u32, Kind>
     }
 }
 
-// The positions that fields are.
+// The positions that fields are, of which a chain has at most so many. No more fields are looked at.
 fn walk_of(alloc: Global, mut fields: Fields) -> Result<Vec<u32>, LineFault>
     ensures ok { IfOk result (λ walk. fields.entry ≡ map (λ i. spelling (pos i)) walk.items) }
+    ensures few { IfOk result (λ walk. length walk.items ≤ MAX_POSITIONS) }
     ensures err { (c : AnyChain) → positions c ≤ MAX_POSITIONS → IfErr result (IsFault (lines.walk_fault c fields.entry)) }
 {
     let mut walk = Vec::new(alloc);
     while let Some(field) = fields.next() {
+        if walk.len() == MAX_POSITIONS {
+            return Err(LineFault::Malformed(Kind::Form));
+        }
         walk.push(position(field)?)?;
     }
     Ok(walk)

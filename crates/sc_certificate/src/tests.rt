@@ -138,10 +138,12 @@ fn faults_of_lines(rt: HostRuntime) -> Result<(), Fail> {
             Some((u32::from(*lines) + 1, *kind))
         );
     }
-    assert_eq!(rt;
-        fault_after(&rt, 14, b"from 0 0 - - -")?,
-        Some((16, Kind::Ended))
-    );
+    for (lines, line) in [(14, b"from 0 0 - - -".as_slice()), (18, b"pivots 50000")] {
+        assert_eq!(rt;
+            fault_after(&rt, lines, line)?,
+            Some((u32::from(lines) + 2, Kind::Ended))
+        );
+    }
     Ok(())
 }
 

@@ -19,8 +19,31 @@ const SCALES: [(&[u8], Result<i128, Kind>); 8] = [
     (b"scale 1 1", Err(Kind::Form)),
 ];
 
-const PAIRS: [(&[u8], Result<i128, Kind>); 7] = [
+const BASES: [(&[u8], Result<i128, Kind>); 5] = [
+    (b"base -3", Ok(-3)),
+    (
+        b"base 1237940039285380274899124223",
+        Ok(1_237_940_039_285_380_274_899_124_223),
+    ),
+    (
+        b"base -1237940039285380274899124223",
+        Ok(-1_237_940_039_285_380_274_899_124_223),
+    ),
+    (b"base 1237940039285380274899124224", Err(Kind::Range)),
+    (b"base -1237940039285380274899124224", Err(Kind::Range)),
+];
+
+const PAIRS: [(&[u8], Result<i128, Kind>); 10] = [
     (b"pair 0 2 -5", Ok(-5)),
+    (
+        b"pair 0 2 1237940039285380274899124223",
+        Ok(1_237_940_039_285_380_274_899_124_223),
+    ),
+    (
+        b"pair 0 2 -1237940039285380274899124223",
+        Ok(-1_237_940_039_285_380_274_899_124_223),
+    ),
+    (b"pair 0 2 1237940039285380274899124224", Err(Kind::Range)),
     (b"pair 0 2 -1237940039285380274899124224", Err(Kind::Range)),
     (b"pair 0 2 -0", Err(Kind::Form)),
     (b"pair 0 3 -5", Err(Kind::Form)),
@@ -34,17 +57,21 @@ fn prices_are_read(rt: HostRuntime) {
     for (line, scale) in SCALES {
         assert_eq!(rt; scale_line(line), scale);
     }
+    for (line, price) in BASES {
+        assert_eq!(rt; base_line(line), price);
+    }
     for (line, price) in PAIRS {
         assert_eq!(rt; pair_line(line, 0, 2), price);
     }
-    assert_eq!(rt; base_line(b"base -3"), Ok(-3));
 }
 
-const VALUES: [(&[u8], Result<(i128, i128), Kind>); 12] = [
+const VALUES: [(&[u8], Result<(i128, i128), Kind>); 14] = [
     (b"value 1/2", Ok((1, 2))),
     (b"value 0/1", Ok((0, 1))),
     (b"value 2097152/1", Ok((2_097_152, 1))),
     (b"value 2097153/1", Err(Kind::Range)),
+    (b"value 1/2097152", Ok((1, 2_097_152))),
+    (b"value 1/2097153", Err(Kind::Range)),
     (b"value 2/4", Err(Kind::Range)),
     (b"value 0/2", Err(Kind::Range)),
     (b"value 1/0", Err(Kind::Range)),
@@ -88,6 +115,13 @@ fn rows_are_read(rt: HostRuntime) -> Result<(), Fail> {
     assert_eq!(rt;
         row.as_slice(),
         [Some(6), None, Some(-4), Some(1)].as_slice()
+    );
+    let line = b"from 1 1267650600228229401496703205375 -1267650600228229401496703205375";
+    let row = from_line(rt.alloc(), line, 1, 2).expect(&rt, "a row");
+    let greatest = 1_267_650_600_228_229_401_496_703_205_375;
+    assert_eq!(rt;
+        row.as_slice(),
+        [Some(greatest), Some(-greatest)].as_slice()
     );
     for (line, kind) in OTHER_ROWS {
         let fault = from_line(rt.alloc(), line, 1, 4).err();

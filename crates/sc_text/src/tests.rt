@@ -148,6 +148,29 @@ fn other_faults_of_a_line(rt: HostRuntime) -> Result<(), Fail> {
     Ok(())
 }
 
+/// Lines of text A with the greatest numbers, and the fault that a later line of text A then is.
+const GREATEST: [(u8, &[u8], Option<(u32, Kind)>); 6] = [
+    (2, b"words 32", Some((4, Kind::Form))),
+    (3, b"word 1000 abAB", None),
+    (
+        3,
+        b"word 1 abababababababababababababababababababababababababababababababab",
+        None,
+    ),
+    (4, b"copies 1048576", None),
+    (5, b"sides 1048576", Some((10, Kind::Form))),
+    (6, b"side 63 1048575 1048575", None),
+];
+
+#[test]
+fn the_greatest_numbers_are_read(rt: HostRuntime) -> Result<(), Fail> {
+    for (number, line, fault) in GREATEST {
+        let text = with_line(&rt, usize::from(number), line)?;
+        assert_eq!(rt; fault_of(&rt, text.as_slice()), fault);
+    }
+    Ok(())
+}
+
 #[test]
 fn bytes_after_the_end(rt: HostRuntime) -> Result<(), Fail> {
     for rest in [b"x".as_slice(), b"\n", b"\r", b"end\n", b"x\ny"] {
