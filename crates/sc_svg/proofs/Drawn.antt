@@ -1,8 +1,7 @@
 -- The text that the printers leave is the drawing.
-use Rattle.std.proofs.Common.{◌≡◌, ◌≢◌, ℕ, zero, suc, pred, ◌+◌, ◌*◌, ◌<◌, ◌==◌, nat_lt, Bool, true, false, List, [], ◌∷◌, ◌++◌, length, take, sym, ◌∙◌, ap, ap₂, refl, arith, inl, inr, add-one, codes}
-use Rattle.std.specs.Fn.{iterate}
+use Rattle.std.proofs.Common.{◌≡◌, ℕ, zero, suc, pred, ◌+◌, ◌*◌, ◌<◌, nat_lt, Bool, true, false, List, [], ◌∷◌, ◌++◌, length, take, sym, ◌∙◌, ap, ap₂, refl, arith, inl, inr, add-one}
 use Rattle.std.specs.List.{flat_map}
-use Rattle.std.proofs.lemmas.Bool.{cases_Bool, eq-eqb, eqb-true}
+use Rattle.std.proofs.lemmas.Bool.{cases_Bool, eq-eqb}
 use Rattle.std.proofs.lemmas.List.Concat.{flat_map-append}
 use Rattle.sc_algebra.specs.Permutations.{IsPermutation, is_least_for}
 use Rattle.sc_chain.specs.Spelling.{letter_byte}
@@ -13,7 +12,7 @@ use Rattle.sc_shape.specs.Shapes.{list_below}
 use Rattle.sc_shape.specs.Tables.{is_own}
 use Rattle.sc_shape.proofs.ListsBelow.{list_passes, list_fails}
 use Rattle.sc_shape.proofs.OrbitLeasts.{iterate_below}
-use Rattle.sc_svg.specs.Layout.{orbit_size, order_below, AreLaidOut}
+use Rattle.sc_svg.specs.Layout.{orbit_size, order_below}
 use Rattle.sc_svg.specs.Drawings.{joined, head_line, vertex_line, edge_line, letter_line, last_line, last_side, base, drawing, IsDrawing}
 use Rattle.sc_svg.specs.LaidOut.{AreLaidBelow, AreLeastOfOrbits}
 

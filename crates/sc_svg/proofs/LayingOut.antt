@@ -1,9 +1,9 @@
 -- A layout is made vertex by vertex, and each vertex side by side.
-use Rattle.std.proofs.Common.{cond, ◌≡◌, ◌≢◌, ℕ, zero, suc, pred, ◌+◌, ◌*◌, ◌-◌, ◌<◌, ◌≤◌, ◌==◌, Bool, true, false, inl, inr, List, [], ◌∷◌, ◌++◌, length, get_or, sym, ◌∙◌, ap, ap₂, refl, arith, add-one, get_or-set_other, get_or-set_same}
+use Rattle.std.proofs.Common.{cond, ◌≡◌, ◌≢◌, ℕ, suc, pred, ◌+◌, ◌*◌, ◌<◌, ◌==◌, Bool, true, false, inl, inr, List, [], ◌∷◌, ◌++◌, length, get_or, sym, ◌∙◌, ap, ap₂, refl, arith, add-one, get_or-set_other, get_or-set_same}
 use Rattle.std.specs.Fn.{iterate}
 use Rattle.std.specs.List.{count_by}
 use Rattle.std.proofs.Math.ListN.{set, length-set}
-use Rattle.std.proofs.lemmas.Bool.{cases_eq, cases_lt, cases_Bool, eq-eqb, ne_eqb, false≢true}
+use Rattle.std.proofs.lemmas.Bool.{cases_lt, eq-eqb, ne_eqb, false≢true}
 use Rattle.std.proofs.lemmas.List.{length-append, length_push}
 use Rattle.std.proofs.lemmas.List.Sums.{sum_by-set}
 use Rattle.sc_algebra.specs.Sums.{count_below}
@@ -12,7 +12,6 @@ use Rattle.sc_algebra.proofs.Cycles.{iterate-last}
 use Rattle.sc_shape.specs.Classes.{entry}
 use Rattle.sc_shape.proofs.OrbitLeasts.{iterate_below}
 use Rattle.sc_svg.specs.Layout.{is_apart, orbit_size, sides_along, order_below}
-use Rattle.sc_svg.specs.Drawings.{last_side}
 use Rattle.sc_svg.specs.LaidOut.{x_in_orbit, AreLaidBelow, IsLaidTo, LaysOrbit}
 use Rattle.sc_svg.proofs.Orbits.{orbits_apart, apart_next, iterates_apart, size_is, length-along, along_last, order_passes, order_fails}
 

@@ -1,5 +1,5 @@
 -- The bytes of a drawing.
-use Rattle.std.specs.Prelude.{◌≡◌, ℕ, pred, ◌+◌, ◌-◌, ◌*◌, ◌/◌, nat_lt, min, max, List, [], ◌∷◌, ◌++◌, length, map, codes, pos}
+use Rattle.std.specs.Prelude.{◌≡◌, ℕ, pred, ◌+◌, ◌-◌, ◌*◌, ◌/◌, nat_lt, min, max, List, [], ◌∷◌, length, codes, pos}
 use Rattle.std.specs.Fn.{iterate}
 use Rattle.std.specs.List.{flat_map}
 use Rattle.sc_algebra.specs.Permutations.{is_least_for}

@@ -1,7 +1,7 @@
 //! Drawings of small surfaces, worked out by hand.
 
 use super::*;
-use sc_fatgraph::{Fatgraph, SurfaceText, read_surface};
+use sc_fatgraph::{Fatgraph, Side, Sides, SurfaceText, read_surface};
 use std::alloc::{AllocError, Global};
 use std::process::Abort;
 
@@ -39,5 +39,37 @@ fn drawings_of_small_surfaces(rt: HostRuntime) -> Result<(), AllocError> {
         let bytes = drawing_of(&rt, rt.alloc(), case.0)?;
         assert_eq!(rt; bytes.as_slice(), case.1, "case {number}");
     }
+    Ok(())
+}
+
+/// Half of the sides of the greatest surfaces.
+const HALF: u32 = 524_288;
+
+/// A surface over 2^19 copies of `a` and `A`, of 2^19 annuli with one vertex each.
+fn many_annuli(rt: &impl Abort, alloc: Global) -> Result<Fatgraph, AllocError> {
+    let text = b"scallop surface 1\nwords 2\nword 1 a\nword 1 A\ncopies 1\nsides 0\nend\n";
+    let chain = read_surface(alloc, text).expect(rt, "a text").chain;
+    let mut sides = Sides::new(alloc);
+    for label in 0..2 {
+        for place in 0..HALF {
+            sides.push(Side {
+                label,
+                mate: place + HALF * (1 - label),
+                next: place + HALF * label,
+            })?;
+        }
+    }
+    assert!(rt; sides.len() <= 1_048_576);
+    Ok(Fatgraph::check(alloc, chain, HALF, sides).expect(rt, "a fatgraph"))
+}
+
+#[test]
+fn a_drawing_of_a_million_sides(rt: HostRuntime) -> Result<(), AllocError> {
+    let bytes = draw(rt.alloc(), &many_annuli(&rt, rt.alloc())?)?;
+    let front =
+        b"<svg xmlns=\"http://www.w3.org/2000/svg\" viewBox=\"0 0 31457300 15728684\">\n<line x1=\"20\" y1=\"15728660\" x2=\"40\" y2=\"15728660\" ";
+    let back = b"<text x=\"31457260\" y=\"15728676\" font-size=\"12\">A</text>\n</svg>\n";
+    assert!(rt; bytes.as_slice().starts_with(front));
+    assert!(rt; bytes.as_slice().ends_with(back));
     Ok(())
 }

@@ -1,10 +1,8 @@
-use Rattle.std.proofs.Common.{◌≡◌, ℕ, ◌+◌, ◌*◌, ◌<◌, List, length, arith, sym, ap, ◌∙◌, subst}
-use Rattle.sc_algebra.specs.Permutations.{IsPermutation, is_least_for}
+use Rattle.std.proofs.Common.{◌≡◌, ℕ, ◌+◌, ◌*◌, List, length, arith, sym, ap, ◌∙◌, subst}
+use Rattle.sc_algebra.specs.Permutations.{is_least_for}
 use Rattle.sc_algebra.proofs.Sums.{count-le}
 use Rattle.sc_theory.specs.Fatgraphs.{turn, vertices}
 use Rattle.sc_theory.proofs.FatgraphLaws.{turn_permutes}
-use Rattle.sc_shape.specs.Classes.{entry}
-use Rattle.sc_svg.specs.Drawings.{base}
 use Rattle.sc_svg.specs.LaidOut.{AreLaidBelow, AreLeastOfOrbits}
 use Rattle.sc_svg.proofs.Orbits.{order_inside}
 use Rattle.sc_svg.proofs.Drawn.{lasts_inside, drawn_from}

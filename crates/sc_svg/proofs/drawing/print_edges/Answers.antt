@@ -1,4 +1,4 @@
-use Rattle.std.proofs.Common.{◌≡◌, ℕ, nat_lt, ap, ◌∙◌, Bool, true, false, lt-ltb, le-ltb, arith}
+use Rattle.std.proofs.Common.{ℕ, nat_lt, ap, ◌∙◌, lt-ltb, le-ltb, arith}
 use Rattle.sc_theory.specs.Fatgraphs.{mate}
 use Rattle.sc_shape.specs.Classes.{entry}
 use Rattle.sc_svg.specs.Drawings.{edge_line}

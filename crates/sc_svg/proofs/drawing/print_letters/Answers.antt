@@ -1,4 +1,4 @@
-use Rattle.std.proofs.Common.{◌≡◌, ℕ, ◌++◌, ap, ◌∙◌}
+use Rattle.std.proofs.Common.{ℕ, ◌++◌, ap, ◌∙◌}
 use Rattle.sc_chain.specs.Spelling.{letter_byte}
 use Rattle.sc_theory.specs.Chains.{letter}
 use Rattle.sc_theory.specs.Fatgraphs.{label}

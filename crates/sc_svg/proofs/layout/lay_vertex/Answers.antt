@@ -1,7 +1,7 @@
-use Rattle.std.proofs.Common.{◌≡◌, ℕ, ◌+◌, ◌*◌, ◌<◌, ◌≤◌, List, length, arith, refl, ap, ◌∙◌}
+use Rattle.std.proofs.Common.{◌≡◌, ℕ, ◌+◌, ◌*◌, ◌<◌, List, length, arith, refl, ap, ◌∙◌}
 use Rattle.std.proofs.lemmas.List.{length_push}
 use Rattle.sc_algebra.specs.Sums.{count_below}
-use Rattle.sc_algebra.specs.Permutations.{IsPermutation, is_least_for}
+use Rattle.sc_algebra.specs.Permutations.{is_least_for}
 use Rattle.sc_algebra.proofs.Sums.{count-le}
 use Rattle.sc_fatgraph.proofs.MarkedOrbits.{turn_permutes}
 use Rattle.sc_theory.specs.Fatgraphs.{turn}
