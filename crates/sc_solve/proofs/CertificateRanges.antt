@@ -1,5 +1,5 @@
 -- The certificate of a solution keeps the ranges of its text.
-use Rattle.std.proofs.Common.{◌≡◌, ℕ, zero, suc, ◌+◌, ◌*◌, ◌/◌, ◌<◌, ◌≤◌, List, [], ◌∷◌, length, get_or, map, ℤ, pos, negsuc, ◌-ℤ◌, ◌*ℤ◌, ◌≤ℤ◌, ◌<ℤ◌, unsigned_abs, arith, refl, sym, ap, subst, ◌∙◌}
+use Rattle.std.proofs.Common.{◌≡◌, ℕ, zero, suc, ◌*◌, ◌<◌, ◌≤◌, List, [], ◌∷◌, length, ℤ, pos, negsuc, ◌-ℤ◌, ◌*ℤ◌, ◌≤ℤ◌, ◌<ℤ◌, arith, sym, subst, ◌∙◌}
 use Rattle.std.specs.Int.{◌∣◌}
 use Rattle.std.specs.List.{AllByRecursion, range_with_len}
 use Rattle.std.proofs.lemmas.Int.{ints}
@@ -7,8 +7,8 @@ use Rattle.std.proofs.lemmas.List.{length-map}
 use Rattle.std.proofs.lemmas.List.FromFn.{length-range_with_len}
 use Rattle.std.proofs.lemmas.Nat.Gcd.{le_of_dvd}
 use Rattle.sc_algebra.proofs.Ints.{mul_comm, mul-le_factor, cancel_le, pos-le}
-use Rattle.sc_theory.specs.Chains.{Chain, no_word, positions}
-use Rattle.sc_theory.specs.Fatgraphs.{Sides, IsFatgraph, cost, edges, vertices}
+use Rattle.sc_theory.specs.Chains.{Chain, positions}
+use Rattle.sc_theory.specs.Fatgraphs.{Sides, cost, edges, vertices}
 use Rattle.sc_theory.specs.Prices.{Prices, Tables, pairs}
 use Rattle.sc_theory.proofs.VertexLaws.{cost_not_negative}
 use Rattle.sc_chain.specs.Faults.{IsSmallChain}
@@ -16,8 +16,7 @@ use Rattle.sc_chain.specs.declared.polygon.Pivot.{Pivot}
 use Rattle.sc_fraction.specs.declared.frac.Frac.{Frac}
 use Rattle.sc_fraction.specs.Frac.{numerator, denominator, IsQuotient}
 use Rattle.sc_text.specs.declared.limits.TheConstants.{MAX_PIVOTS}
-use Rattle.sc_text.specs.ValueLines.{quotient_of, IsValueInRange}
-use Rattle.sc_text.specs.TableLines.{IsEntryInRange, IsRowInRange}
+use Rattle.sc_text.specs.TableLines.{IsRowInRange}
 use Rattle.sc_text.specs.Words.{IsWordInRange}
 use Rattle.sc_text.specs.Surfaces.{IsChainInRange}
 use Rattle.sc_fatgraph.specs.Surfaces.{Surface, IsSurface}
@@ -29,7 +28,7 @@ use Rattle.sc_certificate.specs.Sizes.{IsSmallList, AreSmallTables, FitsCounts, 
 use Rattle.sc_prices.specs.Conditions.{stated}
 use Rattle.sc_assembly.proofs.Wholes.{size, denominator_is, divides_from_times}
 use Rattle.sc_rows.specs.declared.prices.PriceRows.{PriceRows}
-use Rattle.sc_solve.specs.PriceLevels.{lifted_list, lifted_price}
+use Rattle.sc_solve.specs.PriceLevels.{lifted_price}
 use Rattle.sc_solve.specs.Lifts.{IsLift}
 
 -- ---- the value

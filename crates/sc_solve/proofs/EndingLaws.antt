@@ -1,33 +1,30 @@
 -- From the answer of the simplex over polygons to solutions, and to what stops the search.
-use Rattle.std.proofs.Common.{◌≡◌, ℕ, zero, suc, ◌+◌, ◌-◌, ◌*◌, ◌^◌, ◌<◌, ◌≤◌, ltb, cond, List, [], ◌∷◌, ◌++◌, length, get_or, map, replicate, slice_get, Option, Some, None, ℤ, pos, ◌+ℤ◌, ◌*ℤ◌, ◌≤ℤ◌, ◌<ℤ◌, inl, inr, arith, refl, sym, ap, ap₂, subst, ◌∙◌, length-append}
+use Rattle.std.proofs.Common.{◌≡◌, ℕ, suc, ◌+◌, ◌*◌, ◌^◌, ◌<◌, ◌≤◌, ltb, List, [], ◌∷◌, length, map, slice_get, ℤ, pos, ◌*ℤ◌, ◌<ℤ◌, inl, inr, arith, refl, sym, ap, subst, ◌∙◌, length-append}
 use Rattle.std.specs.Prelude.{sum, Bool, ◌⊎◌}
 use Rattle.std.specs.List.{AllByRecursion, range_with_len, filter, flat_map}
-use Rattle.std.proofs.lemmas.Int.{ints}
 use Rattle.std.proofs.lemmas.Bool.{cases_lt, cases_Bool, le-ltb, cond-false}
 use Rattle.std.proofs.lemmas.List.{length-map, get_or_past}
 use Rattle.std.proofs.lemmas.List.FromFn.{get_or-map-range_with_len, length-range_with_len}
-use Rattle.std.proofs.lemmas.Option.{slice_get_within}
 use Rattle.sc_theory.specs.Chains.{Chain, IsChain, IsBalanced, no_word, weight, positions}
-use Rattle.sc_theory.specs.Fatgraphs.{IsFatgraph, IsLeast, cost, vertices}
-use Rattle.sc_theory.specs.Walks.{IsPolygon}
+use Rattle.sc_theory.specs.Fatgraphs.{IsFatgraph, IsLeast, cost}
 use Rattle.sc_theory.specs.Prices.{Prices, pairs, is_pair, all_positions, Covers, IsTight, Vouch, bound}
 use Rattle.sc_theory.specs.Columns.{rows, right_side, word_at}
 use Rattle.sc_theory.proofs.Leastness.{least}
 use Rattle.sc_chain.specs.Faults.{IsSmallChain}
 use Rattle.sc_chain.specs.declared.polygon.Pivot.{Pivot}
-use Rattle.sc_basis.specs.Products.{at, dot, IsNonNegative}
+use Rattle.sc_basis.specs.Products.{at}
 use Rattle.sc_basis.specs.Bases.{Column as Entries}
 use Rattle.sc_basis.specs.Standing.{Stands}
 use Rattle.sc_basis.specs.Journals.{Journal}
 use Rattle.sc_fraction.specs.declared.frac.Frac.{Frac}
 use Rattle.sc_fraction.specs.Frac.{IsQuotient}
-use Rattle.sc_fatgraph.specs.Surfaces.{Surface, IsSurface}
+use Rattle.sc_fatgraph.specs.Surfaces.{Surface}
 use Rattle.sc_text.specs.declared.limits.TheConstants.{MAX_PIVOTS}
 use Rattle.sc_text.specs.Surfaces.{IsChainInRange}
 use Rattle.sc_certificate.specs.Certificates.{IsCertificateInRange}
 use Rattle.sc_certificate.specs.PivotLines.{IsPivotInRange}
 use Rattle.sc_prices.specs.Conditions.{stated, AllHold}
-use Rattle.sc_rows.specs.Standing.{PricesStand, ArePrices, entries_of}
+use Rattle.sc_rows.specs.Standing.{PricesStand}
 use Rattle.sc_rows.specs.declared.fault.WideAt.{WideAt}
 use Rattle.sc_rows.specs.declared.prices.PriceRows.{PriceRows}
 use Rattle.sc_simplex.specs.declared.column.Column.{Column}
@@ -43,12 +40,12 @@ use Rattle.sc_simplex.specs.WideOperations.{IsWideOperation}
 use Rattle.sc_simplex.proofs.FirstSeen.{length_first_seen}
 use Rattle.sc_assembly.proofs.SeedColumns.{feasible as seed}
 use Rattle.sc_assembly.specs.declared.parts.Part.{Part}
-use Rattle.sc_assembly.specs.Multiples.{AreValues, AreCounts}
+use Rattle.sc_assembly.specs.Multiples.{AreValues}
 use Rattle.sc_solve.specs.PolygonColumns.{column_entries, IsPolygonColumn}
 use Rattle.sc_solve.specs.Searches.{IsWideSearch}
 use Rattle.sc_solve.specs.Lifts.{IsLift, IsLiftFault}
 use Rattle.sc_solve.specs.ListTables.{AreDistances}
-use Rattle.sc_solve.specs.Solutions.{pivots_of, last_basis, last_items, IsJournalOf, IsOptimalEnd, ArePartsFrom, ArePartsOf, IsGluedOf, distinct_polygons, IsSolution, certificate_of, IsStopped, IsUsedUp, IsWideAfter, IsWideInLift, HasManyCopies}
+use Rattle.sc_solve.specs.Solutions.{pivots_of, last_items, IsJournalOf, IsOptimalEnd, ArePartsFrom, ArePartsOf, IsGluedOf, distinct_polygons, IsSolution, certificate_of, IsStopped, IsUsedUp, IsWideAfter, IsWideInLift, HasManyCopies}
 use Rattle.sc_solve.specs.Assembling.{named_pivot, valued, IsMadeOf, IsPartStop}
 use Rattle.sc_solve.specs.Endings.{IsEndingBy, IsEnding, IsEndingOf, ArePolygonKeys, HasPolygons, IsStopOf, IsUnlifted, IsUnglued, IsCertified}
 use Rattle.sc_solve.specs.declared.assembling.PartStop.{PartStop}

@@ -1,5 +1,5 @@
 -- What the optimal last basis of a journal of polygons gives: values, balanced parts, and the vertices of what is glued of them.
-use Rattle.std.proofs.Common.{◌≡◌, ℕ, zero, suc, ◌+◌, ◌*◌, ◌/◌, ◌<◌, ◌≤◌, List, [], ◌∷◌, length, get_or, map, set, replicate, nat_lt, Bool, true, false, cond, slice_get, Option, Some, None, ℤ, pos, negsuc, ◌+ℤ◌, ◌*ℤ◌, ◌≤ℤ◌, ◌<ℤ◌, unsigned_abs, arith, refl, sym, ap, ap₂, subst, ◌∙◌}
+use Rattle.std.proofs.Common.{◌≡◌, ℕ, zero, suc, ◌+◌, ◌*◌, ◌/◌, ◌<◌, List, [], ◌∷◌, length, get_or, set, replicate, nat_lt, Bool, true, false, cond, slice_get, Option, Some, None, ℤ, pos, negsuc, ◌*ℤ◌, ◌≤ℤ◌, unsigned_abs, arith, refl, sym, ap, subst, ◌∙◌}
 use Rattle.std.specs.Prelude.{sum, IfSome}
 use Rattle.std.specs.Option.{option_map}
 use Rattle.std.specs.List.{AllByRecursion}
@@ -14,7 +14,7 @@ use Rattle.sc_theory.specs.Walks.{IsPolygon}
 use Rattle.sc_theory.specs.Columns.{rows, column, right_side, word_at}
 use Rattle.sc_chain.specs.declared.polygon.Pivot.{Pivot}
 use Rattle.sc_basis.specs.Products.{dot, IsNonNegative}
-use Rattle.sc_basis.specs.Bases.{Column, Basis, item, columns, entry_of, entries_at, fine_cost, fine_costs}
+use Rattle.sc_basis.specs.Bases.{Column, Basis, item, columns, entries_at, fine_cost, fine_costs}
 use Rattle.sc_basis.specs.Standing.{BasisNumbers, Stands}
 use Rattle.sc_basis.specs.Pivots.{Improves}
 use Rattle.sc_basis.specs.Journals.{IsReached}
@@ -22,7 +22,7 @@ use Rattle.sc_basis.specs.Values.{value, AreMultiples}
 use Rattle.sc_basis.proofs.JournalLaws.{journal_reached}
 use Rattle.sc_basis.proofs.ValueLaws.{bulk_of_right_side, unit_value, columns_sum, fine_price}
 use Rattle.sc_fraction.specs.declared.frac.Frac.{Frac}
-use Rattle.sc_fraction.specs.Frac.{numerator, denominator, IsQuotient}
+use Rattle.sc_fraction.specs.Frac.{numerator, IsQuotient}
 use Rattle.sc_gluing.specs.Gluing.{AreBalanced}
 use Rattle.sc_rows.specs.Standing.{PricesStand, entries_of}
 use Rattle.sc_simplex.specs.Optima.{IsSumOfColumns}

@@ -1,5 +1,5 @@
 -- What `extremal` answers: a journal of polygons to an optimal basis, and what is made of that basis.
-use Rattle.std.specs.Prelude.{◌≡◌, ◌⊎◌, ℕ, suc, ◌<◌, ◌≤◌, ◌*◌, List, [], ◌∷◌, map, set, replicate, length, slice_get, Option, Some, None, ℤ, pos}
+use Rattle.std.specs.Prelude.{◌≡◌, ◌⊎◌, ℕ, suc, ◌≤◌, ◌*◌, List, [], ◌∷◌, map, set, replicate, length, slice_get, Option, Some, None, ℤ, pos}
 use Rattle.std.specs.List.{AllByRecursion}
 use Rattle.sc_theory.specs.Chains.{Chain}
 use Rattle.sc_theory.specs.Fatgraphs.{IsFatgraph, cost}

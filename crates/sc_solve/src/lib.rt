@@ -14,6 +14,8 @@ mod searching;
 mod solution;
 mod solving;
 mod tabling;
+#[cfg(test)]
+mod tests;
 
 pub use columns::{column_of, right_side_of};
 pub use lifting::{LiftFault, lift};

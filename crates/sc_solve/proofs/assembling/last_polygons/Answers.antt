@@ -1,4 +1,4 @@
-use Rattle.std.proofs.Common.{◌+◌, replicate, None}
+use Rattle.std.proofs.Common.{replicate, None}
 use Rattle.sc_solve.proofs.PartLoops.{one_more_pivot}
 use Rattle.sc_solve.proofs.assembling.last_polygons.Goals as goal
 

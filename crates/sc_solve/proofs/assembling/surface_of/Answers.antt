@@ -1,12 +1,9 @@
-use Rattle.std.proofs.Common.{◌≡◌, ℕ, ◌^◌, ◌<◌, List, Option, None, length, replicate, arith, sym, ap, subst, ◌∙◌}
-use Rattle.sc_theory.specs.Columns.{rows}
-use Rattle.sc_fraction.specs.declared.frac.Frac.{Frac}
+use Rattle.std.proofs.Common.{◌≡◌, ℕ, List, Option, None, length, replicate, arith, sym, ap, ◌∙◌}
 use Rattle.sc_assembly.specs.declared.parts.Part.{Part}
-use Rattle.sc_assembly.specs.Multiples.{AreValues, IsFaultOf}
 use Rattle.sc_solve.specs.Solutions.{exchanged, last_items}
-use Rattle.sc_solve.specs.Assembling.{valued, IsMadeOf, IsWithin, IsPartStop}
+use Rattle.sc_solve.specs.Assembling.{valued}
 use Rattle.sc_solve.proofs.PolygonJournals.{length-last_items}
-use Rattle.sc_solve.proofs.PartLoops.{length-valued, fault_within, stop_told}
+use Rattle.sc_solve.proofs.PartLoops.{length-valued}
 use Rattle.sc_solve.proofs.assembling.surface_of.Goals as goal
 
 pub valued_parts-requires : goal.valued_parts-requires

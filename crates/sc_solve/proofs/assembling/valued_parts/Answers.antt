@@ -1,4 +1,4 @@
-use Rattle.std.proofs.Common.{ℕ, ◌+◌, ◌<◌, ◌++◌, List, None, length, arith, sym, ap, ◌∙◌}
+use Rattle.std.proofs.Common.{◌<◌, ◌++◌, List, None, length, arith, sym, ap, ◌∙◌}
 use Rattle.std.proofs.lemmas.List.{get_or_default}
 use Rattle.sc_assembly.specs.declared.parts.Part.{Part}
 use Rattle.sc_solve.specs.Assembling.{part_of}

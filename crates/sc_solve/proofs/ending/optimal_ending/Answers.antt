@@ -1,4 +1,4 @@
-use Rattle.std.proofs.Common.{ℕ, ◌^◌, ◌<◌, ◌≤◌, length, arith}
+use Rattle.std.proofs.Common.{◌^◌, ◌<◌, ◌≤◌, length, arith}
 use Rattle.sc_theory.specs.Columns.{right_side}
 use Rattle.sc_solve.proofs.EndingLaws.{few_columns, optimum_polygons, ending_is, stop_polygons, stop_is}
 use Rattle.sc_solve.proofs.ending.optimal_ending.Goals as goal
