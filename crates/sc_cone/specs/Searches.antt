@@ -1,0 +1,43 @@
+-- The search for the corners of a quadrant.
+use Rattle.std.specs.Prelude.{◌≡◌, ◌≢◌, ℕ, List, [], ◌∷◌, ◌++◌, pos, ◌+ℤ◌, ◌*ℤ◌}
+use Rattle.sc_theory.specs.Chains.{Chain}
+use Rattle.sc_theory.specs.Prices.{Prices, Covers}
+use Rattle.sc_cone.specs.declared.Direction.{Direction}
+use Rattle.sc_cone.specs.declared.Quadrant.{Quadrant}
+use Rattle.sc_cone.specs.Directions.{first_end, last_end, IsIn, IsPrimitive, IsCombination}
+use Rattle.sc_cone.specs.Cones.{quadrant_chain}
+use Rattle.sc_cone.specs.Values.{IsTightAt, SameValueAt}
+
+-- a direction with a list
+pub record Reached : Type 0 where
+  pub direction : Direction
+  pub list : Prices
+
+-- the list covers the quadrant's chain and is tight at the direction
+pub record IsReached (q : Quadrant) (first second : Chain) (r : Reached) : Type 0 where
+  pub covers : Covers (quadrant_chain q first second) r.list
+  pub tight : IsTightAt q first second r.list r.direction
+
+-- neither of two neighbours' lists is tight at the other's direction
+pub record IsOpen (q : Quadrant) (first second : Chain) (r u : Reached) : Type 0 where
+  pub beyond : IsTightAt q first second r.list u.direction → ⊥
+  pub back : IsTightAt q first second u.list r.direction → ⊥
+
+-- a direction that is no end of its quadrant
+pub record IsInside (d : Direction) : Type 0 where
+  pub first : d.s ≢ pos 0
+  pub second : d.t ≢ pos 0
+
+-- the next direction between two neighbours: where both lie inside the quadrant, the one at which their lists have one
+-- value, and else the primitive direction of their sum
+pub record IsNext (q : Quadrant) (first second : Chain) (r u : Reached) (x : Direction) : Type 0 where
+  pub within : IsIn q x
+  pub primitive : IsPrimitive x
+  pub crossing : IsInside r.direction → IsInside u.direction → SameValueAt q first second r.list u.list x
+  pub sum : (IsInside r.direction × IsInside u.direction → ⊥) → (k : ℕ) × IsCombination k 1 1 r.direction u.direction x
+
+-- the directions in the order of turning left: first the two ends, and then each next direction between two neighbours
+-- whose lists are each not tight at the other's direction
+pub data IsSearch (q : Quadrant) (first second : Chain) : List Reached → Type 0 where
+  ends : {r u : Reached} → r.direction ≡ first_end q → u.direction ≡ last_end q → IsReached q first second r → IsReached q first second u → IsSearch q first second (r ∷ u ∷ [])
+  grown : (before : List Reached) (r x u : Reached) (after : List Reached) → IsSearch q first second (before ++ r ∷ u ∷ after) → IsOpen q first second r u → IsNext q first second r u x.direction → IsReached q first second x → IsSearch q first second (before ++ r ∷ x ∷ u ∷ after)
