@@ -1,2 +1,4 @@
 pub mod SameWords
 pub mod ConeChains
+pub mod ConeSums
+pub mod Sizes
