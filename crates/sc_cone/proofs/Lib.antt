@@ -2,3 +2,4 @@ pub mod SameWords
 pub mod ConeChains
 pub mod ConeSums
 pub mod Sizes
+pub mod ConeWords

@@ -1,7 +1,7 @@
 //! Laws of the chains of directions.
 
 ghost use Rattle.std.specs.Prelude.{◌≡◌, ℕ, pos, ◌+ℤ◌, ◌*ℤ◌, ◌↔◌};
-ghost use Rattle.sc_theory.specs.Chains.{Chain, weighted_length};
+ghost use Rattle.sc_theory.specs.Chains.{Chain, IsChain, IsBalanced, weighted_length};
 ghost use Rattle.sc_theory.specs.Prices.{Prices, Covers, bound};
 ghost use Rattle.sc_cone.specs.declared.Direction.{Direction};
 ghost use Rattle.sc_cone.specs.declared.Quadrant.{Quadrant};
@@ -20,4 +20,11 @@ pub fn list_values_are_linear()
     ensures lengths { (q : Quadrant) (first second : Chain) (k i j : ℕ) (d e x : Direction) → IsIn q d → IsIn q e → IsIn q x → IsCombination k i j d e x → pos k *ℤ pos (weighted_length (chain_of q first second x)) ≡ pos i *ℤ pos (weighted_length (chain_of q first second d)) +ℤ pos j *ℤ pos (weighted_length (chain_of q first second e)) }
     ensures bounds { (q : Quadrant) (first second : Chain) (list : Prices) (k i j : ℕ) (d e x : Direction) → IsIn q d → IsIn q e → IsIn q x → IsCombination k i j d e x → pos k *ℤ bound (chain_of q first second x) list ≡ pos i *ℤ bound (chain_of q first second d) list +ℤ pos j *ℤ bound (chain_of q first second e) list }
     ensures values { (q : Quadrant) (first second : Chain) (list : Prices) (k i j : ℕ) (d e x : Direction) → IsIn q d → IsIn q e → IsIn q x → IsCombination k i j d e x → pos k *ℤ list_num (chain_of q first second x) list ≡ pos i *ℤ list_num (chain_of q first second d) list +ℤ pos j *ℤ list_num (chain_of q first second e) list }
+{}
+
+/// The chain of a direction is a chain where the two chains are, and balanced where both are.
+pub fn directions_have_chains()
+    ensures chains { (q : Quadrant) (first second : Chain) (d : Direction) → IsChain first → IsChain second → IsChain (chain_of q first second d) }
+    ensures quadrants { (q : Quadrant) (first second : Chain) → IsChain first → IsChain second → IsChain (quadrant_chain q first second) }
+    ensures balanced { (q : Quadrant) (first second : Chain) (d : Direction) → IsBalanced first → IsBalanced second → IsBalanced (chain_of q first second d) }
 {}
