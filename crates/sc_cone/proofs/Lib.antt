@@ -3,3 +3,4 @@ pub mod ConeChains
 pub mod ConeSums
 pub mod Sizes
 pub mod ConeWords
+pub mod ValueLaws
