@@ -4,3 +4,4 @@ pub mod ConeSums
 pub mod Sizes
 pub mod ConeWords
 pub mod ValueLaws
+pub mod UnusedWords

@@ -4,6 +4,9 @@ ghost use Rattle.std.specs.Prelude.{◌≡◌, ℕ, ℤ, pos, ◌*◌, ◌*ℤ�
 ghost use Rattle.sc_theory.specs.Chains.{Chain, IsChain};
 ghost use Rattle.sc_theory.specs.Fatgraphs.{Sides, cost, IsFatgraph, IsLeast};
 ghost use Rattle.sc_theory.specs.Prices.{Prices, Covers, IsTight};
+ghost use Rattle.sc_cone.specs.declared.Quadrant.{Quadrant};
+ghost use Rattle.sc_cone.specs.Directions.{right};
+ghost use Rattle.sc_cone.specs.Cones.{chain_of};
 ghost use Rattle.sc_cone.specs.Values.{IsValueOf, list_num, list_den};
 
 /// A chain has one value: two fractions that are its value are one number. A least labelled fatgraph gives it.
@@ -23,4 +26,12 @@ pub fn tight_lists_have_the_value()
     ensures fraction { (c : Chain) (list : Prices) (n : ℕ) (g : Sides) → IsFatgraph c n g → IsTight c list n g ↔ (list_num c list *ℤ pos (2 * n) ≡ cost g *ℤ list_den list) }
     ensures value { (c : Chain) (list : Prices) (n : ℕ) (g : Sides) → IsChain c → pos 0 <ℤ list.scale → Covers c list → IsFatgraph c n g → IsTight c list n g → IsValueOf c (list_num c list) (list_den list) }
     ensures back { (c : Chain) (list : Prices) → IsValueOf c (list_num c list) (list_den list) → (pos 0 <ℤ list.scale) × ((n : ℕ) × (g : Sides) × IsFatgraph c n g × IsTight c list n g) }
+{}
+
+/// The direction 1, 0 has one value, whichever quadrant's chain is taken: the words of the second chain have weight 0 there
+/// and label no side, so the labelled fatgraphs are those over the first chain.
+pub fn first_axis_has_one_value()
+    ensures fatgraphs { (q : Quadrant) (first second : Chain) (n : ℕ) (g : Sides) → IsFatgraph (chain_of q first second right) n g ↔ IsFatgraph first n g }
+    ensures value { (q : Quadrant) (first second : Chain) (num den : ℤ) → IsValueOf (chain_of q first second right) num den ↔ IsValueOf first num den }
+    ensures quadrants { (q r : Quadrant) (first second : Chain) (num den : ℤ) → IsValueOf (chain_of q first second right) num den → IsValueOf (chain_of r first second right) num den }
 {}
