@@ -5,3 +5,6 @@ pub mod Sizes
 pub mod ConeWords
 pub mod ValueLaws
 pub mod UnusedWords
+pub mod SideBySide
+pub mod Together
+pub mod Betweens

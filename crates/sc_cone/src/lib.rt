@@ -5,6 +5,7 @@
 
 pub mod cones;
 pub mod examples;
+pub mod unions;
 pub mod values;
 
 /// A direction in the plane of two chains: `s` times the first and `t` times the second.
