@@ -8,3 +8,5 @@ pub mod UnusedWords
 pub mod SideBySide
 pub mod Together
 pub mod Betweens
+pub mod PrimitiveDirections
+pub mod Agreement

@@ -1,7 +1,7 @@
 -- Values of chains: they are unique, a covering list bounds them, and they are a list's value where it is tight.
 use Rattle.std.proofs.Common.{◌≡◌, ℕ, ◌*◌, ◌<◌, length, ℤ, pos, ◌+ℤ◌, ◌-ℤ◌, ◌*ℤ◌, ◌≤ℤ◌, ◌<ℤ◌, ◌↔◌, arith, refl, sym, ap, ap₂, subst, ◌∙◌}
 use Rattle.std.proofs.lemmas.Int.{ints}
-use Rattle.sc_algebra.proofs.Ints.{products, mul_comm, le_antisymm, mul-le_factor, cancel_le, cancel}
+use Rattle.sc_algebra.proofs.Ints.{products, mul_comm, le_antisymm, mul-le_factor, cancel_le, cancel, cancel_factor}
 use Rattle.sc_theory.specs.Chains.{Chain, IsChain, weighted_length}
 use Rattle.sc_theory.specs.Fatgraphs.{Sides, vertices, edges, cost, IsFatgraph, IsLeast}
 use Rattle.sc_theory.specs.Prices.{Prices, Covers, bound, IsTight}
@@ -132,3 +132,23 @@ value_from_least c n g is least = record {
   where
     twice_above : (n : ℕ) → 0 < n → pos 0 <ℤ pos (2 * n)
     twice_above n h = omega (arith, ints)
+
+-- another fraction of the same number
+moved_plain : (a p q p' q' k : ℤ) → p *ℤ a ≡ k *ℤ q → p' *ℤ q ≡ p *ℤ q' → q *ℤ (p' *ℤ a) ≡ q *ℤ (k *ℤ q')
+moved_plain a p q p' q' k e h =
+    let f = simp products at (ap (λ (t : ℤ). t *ℤ q') e) in
+    let g = simp products at (ap (λ (t : ℤ). t *ℤ a) h) in
+    simp products (omega (arith, ints, f, g))
+
+not_zero : (q : ℤ) → pos 0 <ℤ q → q ≡ pos 0 → ⊥
+not_zero q h e = omega (arith, ints)
+
+pub value_moved : (c : Chain) (p q p' q' : ℤ) → IsValueOf c p q → pos 0 <ℤ q' → p' *ℤ q ≡ p *ℤ q' → IsValueOf c p' q'
+value_moved c p q p' q' v above same = record {
+  copies = v.copies;
+  sides = v.sides;
+  fatgraph = v.fatgraph;
+  least = v.least;
+  above = above;
+  fraction = cancel_factor q (p' *ℤ pos (2 * v.copies)) (cost v.sides *ℤ q') (not_zero q v.above) (moved_plain (pos (2 * v.copies)) p q p' q' (cost v.sides) v.fraction same);
+}

@@ -4,6 +4,7 @@
 #![tactic(auto)]
 
 pub mod cones;
+pub mod directions;
 pub mod examples;
 pub mod unions;
 pub mod values;

@@ -8,7 +8,7 @@ ghost use Rattle.sc_cone.specs.declared.Direction.{Direction};
 ghost use Rattle.sc_cone.specs.declared.Quadrant.{Quadrant};
 ghost use Rattle.sc_cone.specs.Directions.{IsIn, TurnsLeft, IsBetween, IsCombination};
 ghost use Rattle.sc_cone.specs.Cones.{chain_of, quadrant_chain};
-ghost use Rattle.sc_cone.specs.Values.{IsTightAt};
+ghost use Rattle.sc_cone.specs.Values.{IsTightAt, SameValueAt};
 ghost use Rattle.sc_cone.specs.Unions.{together};
 
 /// Copies of labelled fatgraphs over two directions of a quadrant, side by side, are a labelled fatgraph over each
@@ -26,4 +26,11 @@ pub fn tight_on_the_cone()
     ensures sums { (q : Quadrant) (first second : Chain) (list : Prices) (k i j : ℕ) (d e x : Direction) → IsChain first → IsChain second → Covers (quadrant_chain q first second) list → 0 < k → IsIn q d → IsIn q e → IsCombination k i j d e x → IsTightAt q first second list d → IsTightAt q first second list e → IsTightAt q first second list x }
     ensures between { (q : Quadrant) (first second : Chain) (list : Prices) (d e x : Direction) → IsChain first → IsChain second → Covers (quadrant_chain q first second) list → IsIn q d → IsIn q e → TurnsLeft d e → IsBetween d e x → IsTightAt q first second list d → IsTightAt q first second list e → IsTightAt q first second list x }
     ensures inside { (q : Quadrant) (d e x : Direction) → IsIn q d → IsIn q e → TurnsLeft d e → IsBetween d e x → IsIn q x }
+{}
+
+/// Two lists that have one value at two directions have one value at each direction beyond: so where both are tight at two
+/// directions, each is tight beyond wherever the other is.
+pub fn lists_that_agree_twice()
+    ensures values { (q : Quadrant) (first second : Chain) (l m : Prices) (d e x : Direction) → IsIn q d → IsIn q e → IsIn q x → TurnsLeft d e → TurnsLeft e x → TurnsLeft d x → SameValueAt q first second l m d → SameValueAt q first second l m e → SameValueAt q first second l m x }
+    ensures tight { (q : Quadrant) (first second : Chain) (l m : Prices) (d e x : Direction) → IsIn q d → IsIn q e → IsIn q x → TurnsLeft d e → TurnsLeft e x → TurnsLeft d x → IsTightAt q first second l d → IsTightAt q first second l e → IsTightAt q first second m d → IsTightAt q first second m e → IsTightAt q first second m x → IsTightAt q first second l x }
 {}

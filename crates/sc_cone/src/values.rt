@@ -9,9 +9,10 @@ ghost use Rattle.sc_cone.specs.Directions.{right};
 ghost use Rattle.sc_cone.specs.Cones.{chain_of};
 ghost use Rattle.sc_cone.specs.Values.{IsValueOf, list_num, list_den};
 
-/// A chain has one value: two fractions that are its value are one number. A least labelled fatgraph gives it.
+/// A chain has one value: the fractions that are its value are those of one number. A least labelled fatgraph gives it.
 pub fn values_are_unique()
     ensures unique { (c : Chain) (num den num' den' : ℤ) → IsValueOf c num den → IsValueOf c num' den' → num *ℤ den' ≡ num' *ℤ den }
+    ensures same { (c : Chain) (num den num' den' : ℤ) → IsValueOf c num den → pos 0 <ℤ den' → num' *ℤ den ≡ num *ℤ den' → IsValueOf c num' den' }
     ensures by_least { (c : Chain) (n : ℕ) (g : Sides) → IsFatgraph c n g → IsLeast c n g → IsValueOf c (cost g) (pos (2 * n)) }
 {}
 
