@@ -10,3 +10,5 @@ pub mod Together
 pub mod Betweens
 pub mod PrimitiveDirections
 pub mod Agreement
+pub mod Corners
+pub mod SameFans

@@ -6,6 +6,7 @@
 pub mod cones;
 pub mod directions;
 pub mod examples;
+pub mod fans;
 pub mod unions;
 pub mod values;
 
