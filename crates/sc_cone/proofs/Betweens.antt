@@ -1,5 +1,5 @@
 -- Directions in the plane: the cone between two, and combinations.
-use Rattle.std.proofs.Common.{◌≡◌, ℕ, suc, ◌<◌, ℤ, pos, negsuc, ◌+ℤ◌, ◌-ℤ◌, ◌*ℤ◌, ◌≤ℤ◌, ◌<ℤ◌, neg_ℤ, unsigned_abs, inl, inr, arith, refl, sym, ap, subst, ◌∙◌}
+use Rattle.std.proofs.Common.{◌≡◌, ℕ, ◌<◌, ℤ, pos, negsuc, ◌+ℤ◌, ◌-ℤ◌, ◌*ℤ◌, ◌≤ℤ◌, ◌<ℤ◌, neg_ℤ, unsigned_abs, arith, sym, ap, ◌∙◌}
 use Rattle.std.proofs.lemmas.Int.{ints}
 use Rattle.sc_algebra.proofs.Ints.{products, mul_neg, mul-le_left, mul-zero}
 use Rattle.sc_theory.specs.Chains.{Chain, IsChain}
@@ -10,7 +10,7 @@ use Rattle.sc_cone.specs.declared.Quadrant.TheVariants.{Lower, Upper}
 use Rattle.sc_cone.specs.Directions.{IsIn, cross, TurnsLeft, IsBetween, IsCombination}
 use Rattle.sc_cone.specs.Cones.{quadrant_chain}
 use Rattle.sc_cone.specs.Values.{IsTightAt}
-use Rattle.sc_cone.proofs.Sizes.{from_zero, to_zero}
+use Rattle.sc_cone.proofs.Sizes.{from_zero}
 use Rattle.sc_cone.proofs.Together.{tight_combined}
 
 -- each direction of the plane as a combination of two

@@ -1,8 +1,8 @@
 -- The chain of a direction is linear in the direction: its weights, its weighted length, a list's bound and value, its totals.
-use Rattle.std.proofs.Common.{◌≡◌, ℕ, zero, suc, ◌+◌, ◌*◌, List, [], ◌∷◌, ◌++◌, length, get_or, ℤ, pos, neg_ℤ, ◌+ℤ◌, ◌-ℤ◌, ◌*ℤ◌, arith, refl, sym, ap, ap₂, ◌∙◌}
+use Rattle.std.proofs.Common.{◌≡◌, ℕ, zero, suc, ◌+◌, ◌*◌, [], ◌∷◌, length, get_or, ℤ, pos, ◌+ℤ◌, ◌-ℤ◌, ◌*ℤ◌, arith, sym, ap, ap₂, ◌∙◌}
 use Rattle.std.proofs.lemmas.Int.{ints}
 use Rattle.sc_algebra.specs.Sums.{sum_below}
-use Rattle.sc_algebra.proofs.Ints.{products, pos-mul, pos-add}
+use Rattle.sc_algebra.proofs.Ints.{products}
 use Rattle.sc_algebra.proofs.Sums.{sum-congr, sum-add, sum-mul_left}
 use Rattle.sc_theory.specs.Words.{Word}
 use Rattle.sc_theory.specs.Chains.{Chain, weight, word, weighted_length}

@@ -1,9 +1,8 @@
 -- The chains of directions are chains, and balanced where the two chains are.
-use Rattle.std.proofs.Common.{◌≡◌, ◌≢◌, ℕ, zero, suc, ◌+◌, ◌*◌, ◌<◌, [], ◌∷◌, ◌++◌, map, reverse, length, ℤ, pos, neg_ℤ, ◌+ℤ◌, ◌*ℤ◌, unsigned_abs, arith, refl, sym, ap, ap₂, subst, ◌∙◌}
+use Rattle.std.proofs.Common.{◌≡◌, ◌≢◌, ℕ, zero, suc, ◌*◌, ◌<◌, [], ◌∷◌, ◌++◌, reverse, length, ℤ, pos, neg_ℤ, ◌+ℤ◌, ◌*ℤ◌, unsigned_abs, arith, refl, sym, ap, ap₂, subst, ◌∙◌}
 use Rattle.std.proofs.lemmas.Int.{ints}
 use Rattle.std.proofs.lemmas.List.{length-map, length-reverse}
 use Rattle.sc_algebra.proofs.Ints.{products, mul_neg, mul-zero}
-use Rattle.sc_theory.specs.declared.Letter.{Letter}
 use Rattle.sc_theory.specs.Words.{Word, IsReduced, inverse_letter, inverse_word, total}
 use Rattle.sc_theory.specs.Chains.{Chain, IsChain, IsBalanced, word, chain_total}
 use Rattle.sc_theory.proofs.Cyclic.{IsReduced-inverse_word}
@@ -11,7 +10,7 @@ use Rattle.sc_theory.proofs.WordLaws.{total-inverse_word}
 use Rattle.sc_cone.specs.declared.Direction.{Direction}
 use Rattle.sc_cone.specs.declared.Quadrant.{Quadrant}
 use Rattle.sc_cone.specs.declared.Quadrant.TheVariants.{Lower, Upper}
-use Rattle.sc_cone.specs.Cones.{times, inverses, cone, second_words, chain_of, quadrant_chain}
+use Rattle.sc_cone.specs.Cones.{times, inverses, second_words, chain_of, quadrant_chain}
 use Rattle.sc_cone.proofs.SameWords.{Same}
 use Rattle.sc_cone.proofs.ConeChains.{quadrant_same}
 

@@ -1,5 +1,5 @@
 -- The corners of a fan are a function of the two chains: going round, neither of two fans can turn further than the other.
-use Rattle.std.proofs.Common.{◌≡◌, ◌⊎◌, ℕ, zero, suc, ◌+◌, ◌-◌, ◌*◌, ◌<◌, ◌≤◌, List, map, length, get_or, ℤ, pos, negsuc, ◌+ℤ◌, ◌-ℤ◌, ◌*ℤ◌, ◌<ℤ◌, ◌≤ℤ◌, inl, inr, arith, refl, sym, ap, ap₂, subst, ◌∙◌}
+use Rattle.std.proofs.Common.{◌≡◌, ◌⊎◌, ℕ, zero, suc, ◌+◌, ◌-◌, ◌<◌, length, ℤ, pos, negsuc, ◌-ℤ◌, ◌*ℤ◌, ◌<ℤ◌, ◌≤ℤ◌, inl, inr, arith, refl, sym, ap, subst, ◌∙◌}
 use Rattle.std.proofs.lemmas.Int.{ints}
 use Rattle.std.proofs.lemmas.Bool.{cases_lt, cases_order}
 use Rattle.sc_algebra.proofs.Ints.{mul_comm, sub_mul, mul-le_factor, mul-zero, zero-mul}
@@ -11,7 +11,7 @@ use Rattle.sc_cone.specs.declared.Quadrant.TheVariants.{Lower, Upper}
 use Rattle.sc_cone.specs.Directions.{down, right, up, IsIn, IsPrimitive, cross, TurnsLeft, IsBetween}
 use Rattle.sc_cone.specs.Cones.{quadrant_chain}
 use Rattle.sc_cone.specs.Values.{IsTightAt}
-use Rattle.sc_cone.specs.Fans.{Corner, Edge, Fan, corner, edge, turn_to, quadrant_from, quadrant_of, IsFan}
+use Rattle.sc_cone.specs.Fans.{Corner, Fan, edge, turn_to, quadrant_from, quadrant_of, IsFan}
 use Rattle.sc_cone.proofs.PrimitiveDirections.{same_direction}
 use Rattle.sc_cone.proofs.Betweens.{tight_between}
 use Rattle.sc_cone.proofs.Agreement.{tight_beyond}

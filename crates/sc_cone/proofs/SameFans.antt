@@ -1,5 +1,5 @@
 -- Two fans of the same chains have the same corners.
-use Rattle.std.proofs.Common.{◌≡◌, ◌⊎◌, ℕ, ◌<◌, length, ℤ, pos, negsuc, ◌*ℤ◌, ◌≤ℤ◌, arith, refl, sym, ap, subst, ◌∙◌}
+use Rattle.std.proofs.Common.{◌≡◌, ℕ, ◌<◌, length, ℤ, pos, negsuc, ◌*ℤ◌, ◌≤ℤ◌, arith, refl, sym, subst}
 use Rattle.std.proofs.lemmas.Int.{ints}
 use Rattle.sc_theory.specs.Chains.{Chain, IsChain}
 use Rattle.sc_theory.specs.Prices.{Prices}

@@ -1,5 +1,5 @@
 -- Labelled fatgraphs side by side: their sides, vertices and costs are added.
-use Rattle.std.proofs.Common.{◌≡◌, ◌≢◌, ℕ, zero, suc, ◌+◌, ◌-◌, ◌*◌, ◌/◌, ◌<◌, ◌≤◌, Bool, true, false, IsTrue, ◌==◌, [], ◌∷◌, ◌++◌, map, length, get_or, ℤ, pos, ◌+ℤ◌, ◌-ℤ◌, ◌*ℤ◌, inl, inr, arith, refl, sym, ap, ap₂, subst, ◌∙◌}
+use Rattle.std.proofs.Common.{◌≡◌, ◌≢◌, ℕ, zero, suc, ◌+◌, ◌-◌, ◌*◌, ◌/◌, ◌<◌, ◌≤◌, Bool, true, false, IsTrue, ◌==◌, [], length, get_or, pos, ◌+ℤ◌, ◌-ℤ◌, ◌*ℤ◌, inl, inr, arith, refl, sym, ap, ap₂, subst, ◌∙◌}
 use Rattle.std.proofs.lemmas.Int.{ints}
 use Rattle.std.proofs.lemmas.Bool.{cases_lt}
 use Rattle.std.proofs.lemmas.List.{length-append, length-map, get_or_append_left, get_or-append-add, get_or-map}
@@ -151,23 +151,23 @@ module _ (c : Chain) (g h : Sides) (a : IsRibbon c g) (b : IsRibbon c h) where
             (λ s inside stays. b.moves s inside (omega (arith, mate_right g h s inside, stays)));
         inverse = by_halves g h (λ s. letter c (label j (mate j s)) ≡ inverse_letter (letter c (label j s)))
             (λ s inside.
-                ap (λ (x : ℕ). letter c (label j x)) (mate_left g h s inside)
-                ∙ ap (letter c) (label_left g h (mate g s) (a.mates s inside))
-                ∙ a.inverse s inside
-                ∙ ap (λ (x : ℕ). inverse_letter (letter c x)) (sym (label_left g h s inside)))
+            ap (λ (x : ℕ). letter c (label j x)) (mate_left g h s inside)
+            ∙ ap (letter c) (label_left g h (mate g s) (a.mates s inside))
+            ∙ a.inverse s inside
+            ∙ ap (λ (x : ℕ). inverse_letter (letter c x)) (sym (label_left g h s inside)))
             (λ s inside.
-                ap (λ (x : ℕ). letter c (label j x)) (mate_right g h s inside)
-                ∙ ap (letter c) (label_right g h (mate h s) (b.mates s inside))
-                ∙ b.inverse s inside
-                ∙ ap (λ (x : ℕ). inverse_letter (letter c x)) (sym (label_right g h s inside)));
+            ap (λ (x : ℕ). letter c (label j x)) (mate_right g h s inside)
+            ∙ ap (letter c) (label_right g h (mate h s) (b.mates s inside))
+            ∙ b.inverse s inside
+            ∙ ap (λ (x : ℕ). inverse_letter (letter c x)) (sym (label_right g h s inside)));
         apart = λ s t inside there same.
             by_halves g h (λ s. (t : ℕ) → t < length j → next j s ≡ next j t → s ≡ t)
             (λ s s_in. by_halves g h (λ t. next j s ≡ next j t → s ≡ t)
-                (λ t t_in e. a.apart s t s_in t_in (sym (next_left g h s s_in) ∙ e ∙ next_left g h t t_in))
-                (λ t t_in e. absurd (omega (arith, next_left g h s s_in, next_right g h t t_in, e, a.nexts s s_in))))
+            (λ t t_in e. a.apart s t s_in t_in (sym (next_left g h s s_in) ∙ e ∙ next_left g h t t_in))
+            (λ t t_in e. absurd (omega (arith, next_left g h s s_in, next_right g h t t_in, e, a.nexts s s_in))))
             (λ s s_in. by_halves g h (λ t. next j (length g + s) ≡ next j t → length g + s ≡ t)
-                (λ t t_in e. absurd (omega (arith, next_right g h s s_in, next_left g h t t_in, e, a.nexts t t_in)))
-                (λ t t_in e. ap (λ (x : ℕ). length g + x) (b.apart s t s_in t_in (omega (arith, next_right g h s s_in, next_right g h t t_in, e)))))
+            (λ t t_in e. absurd (omega (arith, next_right g h s s_in, next_left g h t t_in, e, a.nexts t t_in)))
+            (λ t t_in e. ap (λ (x : ℕ). length g + x) (b.apart s t s_in t_in (omega (arith, next_right g h s s_in, next_right g h t t_in, e)))))
             s inside t there same;
         follows = by_halves g h (λ s. label j (next j s) ≡ succ c (label j s))
             (λ s inside. ap (label j) (next_left g h s inside) ∙ label_left g h (next g s) (a.nexts s inside) ∙ a.follows s inside ∙ ap (succ c) (sym (label_left g h s inside)))

@@ -1,6 +1,6 @@
 -- Copies of labelled fatgraphs over two directions of a quadrant are one over a combination of the directions, and tight
 -- for a list that is tight for both.
-use Rattle.std.proofs.Common.{◌≡◌, ℕ, ◌+◌, ◌*◌, ◌<◌, length, ℤ, pos, ◌+ℤ◌, ◌*ℤ◌, ◌<ℤ◌, unsigned_abs, arith, refl, sym, ap, ap₂, subst, ◌∙◌}
+use Rattle.std.proofs.Common.{◌≡◌, ℕ, ◌+◌, ◌*◌, ◌<◌, length, ℤ, pos, ◌+ℤ◌, ◌*ℤ◌, unsigned_abs, arith, ap, ap₂, subst, ◌∙◌}
 use Rattle.std.proofs.lemmas.Int.{ints}
 use Rattle.sc_algebra.proofs.Ints.{products}
 use Rattle.sc_theory.specs.Chains.{Chain, IsChain, weight, first}

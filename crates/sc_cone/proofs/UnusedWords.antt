@@ -1,13 +1,11 @@
 -- Words of weight 0 after a chain label no side: the labelled fatgraphs over the chain with them are those over the chain.
-use Rattle.std.proofs.Common.{◌≡◌, ℕ, zero, suc, ◌+◌, ◌*◌, ◌<◌, ◌≤◌, ◌==◌, ◌↔◌, [], ◌∷◌, ◌++◌, length, get_or, ℤ, pos, ◌*ℤ◌, ◌≤ℤ◌, inl, inr, arith, refl, sym, ap, subst, ◌∙◌}
+use Rattle.std.proofs.Common.{◌≡◌, ℕ, zero, suc, ◌+◌, ◌*◌, ◌<◌, ◌≤◌, ◌==◌, ◌↔◌, [], ◌∷◌, ◌++◌, length, get_or, ℤ, inl, inr, arith, refl, sym, ap, subst, ◌∙◌}
 use Rattle.std.proofs.lemmas.Bool.{cases_lt, ne_eqb, eq-eqb}
 use Rattle.std.proofs.lemmas.List.Sums.{sum_by-append}
-use Rattle.sc_algebra.specs.Sums.{count_below}
 use Rattle.sc_algebra.proofs.Sums.{count-none, count_found}
-use Rattle.sc_theory.specs.declared.Letter.{Letter}
 use Rattle.sc_theory.specs.Words.{Word, inverse_letter}
 use Rattle.sc_theory.specs.Chains.{Chain, no_letter, weight, word, positions, first, word_of, letter, succ}
-use Rattle.sc_theory.specs.Fatgraphs.{Sides, label, mate, next, sides_at, cost, IsFatgraph, IsLeast}
+use Rattle.sc_theory.specs.Fatgraphs.{Sides, label, mate, sides_at, IsFatgraph}
 use Rattle.sc_theory.proofs.ChainLaws.{at, place, first-cons, positions-cons, letter_place, succ_within, succ_last}
 use Rattle.sc_theory.proofs.FatgraphLaws.{sides_of_position}
 use Rattle.sc_cone.specs.declared.Quadrant.{Quadrant}
@@ -195,9 +193,10 @@ value_from_fatgraphs c d same num den v = record {
 
 pub axis_value : (q : Quadrant) (first second : Chain) (num den : ℤ) → IsValueOf (chain_of q first second right) num den ↔ IsValueOf first num den
 axis_value q first second num den =
-    let same = axis_fatgraphs q first second in
-    (value_from_fatgraphs (chain_of q first second right) first same num den,
-    value_from_fatgraphs first (chain_of q first second right) (λ n g. ((same n g).1, (same n g).0)) num den)
+    let same = axis_fatgraphs q first second in (
+      value_from_fatgraphs (chain_of q first second right) first same num den,
+      value_from_fatgraphs first (chain_of q first second right) (λ n g. ((same n g).1, (same n g).0)) num den,
+    )
 
 pub axis_quadrants : (q r : Quadrant) (first second : Chain) (num den : ℤ) → IsValueOf (chain_of q first second right) num den → IsValueOf (chain_of r first second right) num den
 axis_quadrants q r first second num den v = (axis_value r first second num den).1 ((axis_value q first second num den).0 v)

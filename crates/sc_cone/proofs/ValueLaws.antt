@@ -1,7 +1,7 @@
 -- Values of chains: they are unique, a covering list bounds them, and they are a list's value where it is tight.
-use Rattle.std.proofs.Common.{◌≡◌, ℕ, ◌*◌, ◌<◌, length, ℤ, pos, ◌+ℤ◌, ◌-ℤ◌, ◌*ℤ◌, ◌≤ℤ◌, ◌<ℤ◌, ◌↔◌, arith, refl, sym, ap, ap₂, subst, ◌∙◌}
+use Rattle.std.proofs.Common.{◌≡◌, ℕ, ◌*◌, ◌<◌, ℤ, pos, ◌+ℤ◌, ◌-ℤ◌, ◌*ℤ◌, ◌≤ℤ◌, ◌<ℤ◌, ◌↔◌, arith, refl, sym, ap, ap₂, ◌∙◌}
 use Rattle.std.proofs.lemmas.Int.{ints}
-use Rattle.sc_algebra.proofs.Ints.{products, mul_comm, le_antisymm, mul-le_factor, cancel_le, cancel, cancel_factor}
+use Rattle.sc_algebra.proofs.Ints.{products, le_antisymm, mul-le_factor, cancel_le, cancel, cancel_factor}
 use Rattle.sc_theory.specs.Chains.{Chain, IsChain, weighted_length}
 use Rattle.sc_theory.specs.Fatgraphs.{Sides, vertices, edges, cost, IsFatgraph, IsLeast}
 use Rattle.sc_theory.specs.Prices.{Prices, Covers, bound, IsTight}

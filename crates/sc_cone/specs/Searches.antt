@@ -1,5 +1,5 @@
 -- The search for the corners of a quadrant.
-use Rattle.std.specs.Prelude.{◌≡◌, ◌≢◌, ℕ, List, [], ◌∷◌, ◌++◌, pos, ◌+ℤ◌, ◌*ℤ◌}
+use Rattle.std.specs.Prelude.{◌≡◌, ◌≢◌, ℕ, List, [], ◌∷◌, ◌++◌, pos}
 use Rattle.sc_theory.specs.Chains.{Chain}
 use Rattle.sc_theory.specs.Prices.{Prices, Covers}
 use Rattle.sc_cone.specs.declared.Direction.{Direction}

@@ -1,10 +1,5 @@
-use Rattle.std.proofs.Common.{ℕ, unsigned_abs}
-use Rattle.sc_theory.specs.Chains.{Chain}
-use Rattle.sc_theory.specs.Prices.{Prices}
-use Rattle.sc_cone.specs.declared.Direction.{Direction}
-use Rattle.sc_cone.specs.declared.Quadrant.{Quadrant}
 use Rattle.sc_cone.specs.Cones.{second_words}
-use Rattle.sc_cone.proofs.Sizes.{Combined, combined}
+use Rattle.sc_cone.proofs.Sizes.{combined}
 use Rattle.sc_cone.proofs.ConeSums.{lengths_combined, bounds_combined, values_combined}
 use Rattle.sc_cone.proofs.cones.list_values_are_linear.Goals as goal
 
