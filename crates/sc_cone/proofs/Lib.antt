@@ -12,3 +12,4 @@ pub mod PrimitiveDirections
 pub mod Agreement
 pub mod Corners
 pub mod SameFans
+pub mod Forms

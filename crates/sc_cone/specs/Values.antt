@@ -1,6 +1,7 @@
 -- The value of a chain, and the value that a price list gives it.
-use Rattle.std.specs.Prelude.{◌≡◌, ℕ, ◌*◌, ℤ, pos, ◌-ℤ◌, ◌*ℤ◌, ◌<ℤ◌}
-use Rattle.sc_theory.specs.Chains.{Chain, weighted_length}
+use Rattle.std.specs.Prelude.{◌≡◌, ℕ, ◌+◌, ◌*◌, length, get_or, ℤ, pos, ◌-ℤ◌, ◌*ℤ◌, ◌<ℤ◌}
+use Rattle.sc_algebra.specs.Sums.{sum_below}
+use Rattle.sc_theory.specs.Chains.{Chain, weight, weighted_length}
 use Rattle.sc_theory.specs.Fatgraphs.{Sides, cost, IsFatgraph, IsLeast}
 use Rattle.sc_theory.specs.Prices.{Prices, bound}
 use Rattle.sc_cone.specs.declared.Direction.{Direction}
@@ -34,3 +35,12 @@ abbrev pub SameValueAt : Quadrant → Chain → Chain → Prices → Prices → 
 SameValueAt q first second l m d =
     let c : Chain = chain_of q first second d in
     list_num c l *ℤ list_den m ≡ list_num c m *ℤ list_den l
+
+-- the form of a list, two numbers by the same unit: what the first chain adds to its values each time that it is taken, and
+-- what the second adds, whose words come after the first chain's
+abbrev pub first_form : Chain → Prices → ℤ
+first_form first list = list_num first list
+
+abbrev pub second_form : Chain → Chain → Prices → ℤ
+second_form first second list =
+    list.scale *ℤ pos (weighted_length second) -ℤ pos 2 *ℤ sum_below (λ w. pos (weight second w) *ℤ get_or list.base (length first + w) (pos 0)) (length second)
