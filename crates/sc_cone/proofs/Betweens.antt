@@ -14,10 +14,10 @@ use Rattle.sc_cone.proofs.Sizes.{from_zero}
 use Rattle.sc_cone.proofs.Together.{tight_combined}
 
 -- each direction of the plane as a combination of two
-plane_s : (ds dt es et xs xt : ℤ) → (ds *ℤ et -ℤ dt *ℤ es) *ℤ xs ≡ (xs *ℤ et -ℤ xt *ℤ es) *ℤ ds +ℤ (ds *ℤ xt -ℤ dt *ℤ xs) *ℤ es
+pub plane_s : (ds dt es et xs xt : ℤ) → (ds *ℤ et -ℤ dt *ℤ es) *ℤ xs ≡ (xs *ℤ et -ℤ xt *ℤ es) *ℤ ds +ℤ (ds *ℤ xt -ℤ dt *ℤ xs) *ℤ es
 plane_s ds dt es et xs xt = simp products (omega (arith, ints))
 
-plane_t : (ds dt es et xs xt : ℤ) → (ds *ℤ et -ℤ dt *ℤ es) *ℤ xt ≡ (xs *ℤ et -ℤ xt *ℤ es) *ℤ dt +ℤ (ds *ℤ xt -ℤ dt *ℤ xs) *ℤ et
+pub plane_t : (ds dt es et xs xt : ℤ) → (ds *ℤ et -ℤ dt *ℤ es) *ℤ xt ≡ (xs *ℤ et -ℤ xt *ℤ es) *ℤ dt +ℤ (ds *ℤ xt -ℤ dt *ℤ xs) *ℤ et
 plane_t ds dt es et xs xt = simp products (omega (arith, ints))
 
 by_sizes : (k i j : ℤ) (k' i' j' : ℕ) (x d e : ℤ) → k ≡ pos k' → i ≡ pos i' → j ≡ pos j' → k *ℤ x ≡ i *ℤ d +ℤ j *ℤ e → pos k' *ℤ x ≡ pos i' *ℤ d +ℤ pos j' *ℤ e

@@ -13,6 +13,7 @@ use Rattle.sc_cone.specs.Cones.{quadrant_chain}
 use Rattle.sc_cone.specs.Values.{IsTightAt}
 use Rattle.sc_cone.specs.Fans.{Corner, Fan, edge, turn_to, quadrant_from, quadrant_of, IsFan}
 use Rattle.sc_cone.proofs.PrimitiveDirections.{same_direction}
+use Rattle.sc_cone.proofs.Turning.{not_negative, cases_sign, turned, below_before, above_after}
 use Rattle.sc_cone.proofs.Betweens.{tight_between}
 use Rattle.sc_cone.proofs.Agreement.{tight_beyond}
 
@@ -25,20 +26,6 @@ pub record Leg (first second : Chain) (q : Quadrant) (d e : Direction) (l : Pric
   pub covers : Covers (quadrant_chain q first second) l
   pub at_d : IsTightAt q first second l d
   pub at_e : IsTightAt q first second l e
-
-not_negative : (a : ℤ) → pos 0 <ℤ a → pos 0 ≤ℤ a
-not_negative a h = omega (arith, ints)
-
-cases_sign : (a : ℤ) → (a ≡ pos 0) ⊎ ((pos 0 <ℤ a) ⊎ (a <ℤ pos 0))
-cases_sign (pos zero) = inl refl
-cases_sign (pos (suc n)) = inr (inl (omega (arith, ints)))
-cases_sign (negsuc n) = inr (inr (omega (arith, ints)))
-
-turned_plain : (a b c d : ℤ) → a *ℤ d -ℤ b *ℤ c ≡ pos 0 -ℤ (c *ℤ b -ℤ d *ℤ a)
-turned_plain a b c d = omega (arith, ints, mul_comm a d, mul_comm b c)
-
-turned : (d e : Direction) → cross d e <ℤ pos 0 → TurnsLeft e d
-turned d e h = omega (arith, ints, turned_plain d.s d.t e.s e.t)
 
 module _ (first second : Chain) (is_first : IsChain first) (is_second : IsChain second) (q : Quadrant) where
   -- two lists from d, one to e and one further to u, with the next edge after e: its list at e makes the first one tight
@@ -105,30 +92,6 @@ quadrant_below (negsuc t) h = refl
 quadrant_above : (t : ℤ) → pos 0 ≤ℤ t → quadrant_from t ≡ Upper
 quadrant_above (pos t) h = refl
 quadrant_above (negsuc t) h = absurd (omega (arith, ints))
-
--- what the area says of the signs: s t' - t s' above 0, with s and s' not below 0
-product_positive : (a b : ℤ) → pos 0 ≤ℤ b → pos 0 <ℤ (a *ℤ b) → pos 0 <ℤ a
-product_positive (pos zero) b low h = absurd (omega (arith, ints, zero-mul b))
-product_positive (pos (suc a)) b low h = omega (arith, ints)
-product_positive (negsuc a) b low h = absurd (omega (arith, ints, mul_comm (negsuc a) b, mul-le_factor b (negsuc a) (pos 0) low (omega (arith, ints)), mul-zero b))
-
-below_before : (s t s' t' : ℤ) → pos 0 ≤ℤ s → pos 0 ≤ℤ s' → t' ≤ℤ pos 0 → pos 0 <ℤ (s *ℤ t' -ℤ t *ℤ s') → t <ℤ pos 0
-below_before s t s' t' low low' below h =
-    let first : (s *ℤ t') ≤ℤ (s *ℤ pos 0) = mul-le_factor s t' (pos 0) low below in
-    let above : pos 0 <ℤ ((pos 0 -ℤ t) *ℤ s') = omega (arith, ints, h, first, mul-zero s, negated t s') in
-    turn_sign t (product_positive (pos 0 -ℤ t) s' low' above)
-  where
-    negated : (t s' : ℤ) → (pos 0 -ℤ t) *ℤ s' ≡ pos 0 -ℤ t *ℤ s'
-    negated t s' = omega (arith, ints, sub_mul (pos 0) t s', zero-mul s')
-
-    turn_sign : (t : ℤ) → pos 0 <ℤ (pos 0 -ℤ t) → t <ℤ pos 0
-    turn_sign t h = omega (arith, ints)
-
-above_after : (s t s' t' : ℤ) → pos 0 ≤ℤ s → pos 0 ≤ℤ s' → pos 0 ≤ℤ t → pos 0 <ℤ (s *ℤ t' -ℤ t *ℤ s') → pos 0 <ℤ t'
-above_after s t s' t' low low' above h =
-    let second : (t *ℤ pos 0) ≤ℤ (t *ℤ s') = mul-le_factor t (pos 0) s' above low' in
-    let first : pos 0 <ℤ (t' *ℤ s) = omega (arith, ints, h, second, mul-zero t, mul_comm s t') in
-    product_positive t' s low first
 
 -- nothing is to the left of the second axis
 nothing_after_up : (x : Direction) → pos 0 ≤ℤ x.s → TurnsLeft up x → ⊥

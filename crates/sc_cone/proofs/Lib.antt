@@ -10,6 +10,8 @@ pub mod Together
 pub mod Betweens
 pub mod PrimitiveDirections
 pub mod Agreement
+pub mod Turning
+pub mod NextDirections
 pub mod Corners
 pub mod SameFans
 pub mod Forms

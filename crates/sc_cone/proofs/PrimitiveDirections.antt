@@ -75,7 +75,7 @@ proportion (suc n) p q a b a' b' bound above above' e f =
     ]
 
 -- a pair without a common divisor isn't 0, and is no multiple but once
-not_both : (a b : ℕ) → IsGcd a b 1 → 0 < a + b
+pub not_both : (a b : ℕ) → IsGcd a b 1 → 0 < a + b
 not_both a b h =
     elim (eq-zero-or-pos (a + b)) [
       | inl none ↦

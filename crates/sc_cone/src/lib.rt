@@ -7,6 +7,7 @@ pub mod cones;
 pub mod directions;
 pub mod examples;
 pub mod fans;
+pub mod searches;
 pub mod unions;
 pub mod values;
 

@@ -1,0 +1,28 @@
+//! Laws of the search for the corners of a quadrant.
+
+ghost use Rattle.std.specs.Prelude.{◌≡◌, ℤ, pos, ◌*ℤ◌, ◌<ℤ◌, ◌↔◌};
+ghost use Rattle.sc_theory.specs.Chains.{Chain, IsChain};
+ghost use Rattle.sc_theory.specs.Prices.{Prices, Covers};
+ghost use Rattle.sc_cone.specs.declared.Direction.{Direction};
+ghost use Rattle.sc_cone.specs.declared.Quadrant.{Quadrant};
+ghost use Rattle.sc_cone.specs.Directions.{IsIn, TurnsLeft};
+ghost use Rattle.sc_cone.specs.Cones.{quadrant_chain};
+ghost use Rattle.sc_cone.specs.Searches.{Reached, IsReached, IsOpen, IsNext};
+ghost use Rattle.sc_cone.specs.Values.{IsValueOf, IsTightAt, list_num, list_den};
+
+/// Where the value of a chain is known, a list has it exactly where the two fractions are one number.
+pub fn tight_by_the_known_value()
+    ensures { (c : Chain) (list : Prices) (num den : ℤ) → pos 0 <ℤ list.scale → IsValueOf c num den → IsValueOf c (list_num c list) (list_den list) ↔ (list_num c list *ℤ den ≡ num *ℤ list_den list) }
+{}
+
+/// A covering list that is tight at a direction and not at one to the left of it isn't tight further on either.
+pub fn no_list_is_tight_again()
+    ensures { (q : Quadrant) (first second : Chain) (list : Prices) (d e x : Direction) → IsChain first → IsChain second → Covers (quadrant_chain q first second) list → IsIn q d → IsIn q e → IsIn q x → TurnsLeft d e → TurnsLeft e x → IsTightAt q first second list d → (IsTightAt q first second list e → ⊥) → IsTightAt q first second list x → ⊥ }
+{}
+
+/// The next direction between two neighbours neither of whose lists is tight at the other is strictly between them, and is
+/// one.
+pub fn next_direction_is_between()
+    ensures between { (q : Quadrant) (first second : Chain) (r u : Reached) (x : Direction) → IsChain first → IsChain second → IsReached q first second r → IsReached q first second u → IsIn q r.direction → IsIn q u.direction → TurnsLeft r.direction u.direction → IsOpen q first second r u → IsNext q first second r u x → TurnsLeft r.direction x × TurnsLeft x u.direction }
+    ensures one { (q : Quadrant) (first second : Chain) (r u : Reached) (x y : Direction) → IsChain first → IsChain second → IsReached q first second r → IsReached q first second u → IsIn q r.direction → IsIn q u.direction → TurnsLeft r.direction u.direction → IsOpen q first second r u → IsNext q first second r u x → IsNext q first second r u y → x ≡ y }
+{}
