@@ -12,6 +12,7 @@ pub mod PrimitiveDirections
 pub mod Agreement
 pub mod Turning
 pub mod NextDirections
+pub mod SearchRows
 pub mod Corners
 pub mod SameFans
 pub mod Forms

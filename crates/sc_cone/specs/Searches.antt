@@ -1,10 +1,10 @@
 -- The search for the corners of a quadrant.
-use Rattle.std.specs.Prelude.{◌≡◌, ◌≢◌, ℕ, List, [], ◌∷◌, ◌++◌, pos}
+use Rattle.std.specs.Prelude.{◌≡◌, ◌≢◌, ℕ, suc, ◌<◌, List, [], ◌∷◌, ◌++◌, length, get_or, pos}
 use Rattle.sc_theory.specs.Chains.{Chain}
 use Rattle.sc_theory.specs.Prices.{Prices, Covers}
 use Rattle.sc_cone.specs.declared.Direction.{Direction}
 use Rattle.sc_cone.specs.declared.Quadrant.{Quadrant}
-use Rattle.sc_cone.specs.Directions.{first_end, last_end, IsIn, IsPrimitive, IsCombination}
+use Rattle.sc_cone.specs.Directions.{right, first_end, last_end, IsIn, IsPrimitive, TurnsLeft, IsCombination}
 use Rattle.sc_cone.specs.Cones.{quadrant_chain}
 use Rattle.sc_cone.specs.Values.{IsTightAt, SameValueAt}
 
@@ -39,5 +39,22 @@ pub record IsNext (q : Quadrant) (first second : Chain) (r u : Reached) (x : Dir
 -- the directions in the order of turning left: first the two ends, and then each next direction between two neighbours
 -- whose lists are each not tight at the other's direction
 pub data IsSearch (q : Quadrant) (first second : Chain) : List Reached → Type 0 where
-  ends : {r u : Reached} → r.direction ≡ first_end q → u.direction ≡ last_end q → IsReached q first second r → IsReached q first second u → IsSearch q first second (r ∷ u ∷ [])
+  begun : {r u : Reached} → r.direction ≡ first_end q → u.direction ≡ last_end q → IsReached q first second r → IsReached q first second u → IsSearch q first second (r ∷ u ∷ [])
   grown : (before : List Reached) (r x u : Reached) (after : List Reached) → IsSearch q first second (before ++ r ∷ u ∷ after) → IsOpen q first second r u → IsNext q first second r u x.direction → IsReached q first second x → IsSearch q first second (before ++ r ∷ x ∷ u ∷ after)
+
+-- the entry number i of a list of directions with lists, and what stands past the end
+abbrev pub nothing_reached : Reached
+nothing_reached = record { direction = right; list = record { scale = pos 1; base = []; pair = [] } }
+
+abbrev pub reached : List Reached → ℕ → Reached
+reached rs i = get_or rs i nothing_reached
+
+-- primitive directions of a quadrant from its one end to the other, each to the left of the one before, with lists that
+-- cover and are tight there
+pub record IsRow (q : Quadrant) (first second : Chain) (rs : List Reached) : Type 0 where
+  pub begins : (reached rs 0).direction ≡ first_end q
+  pub ends : (k : ℕ) → suc k ≡ length rs → (reached rs k).direction ≡ last_end q
+  pub within : (i : ℕ) → i < length rs → IsIn q (reached rs i).direction
+  pub primitive : (i : ℕ) → i < length rs → IsPrimitive (reached rs i).direction
+  pub tight : (i : ℕ) → i < length rs → IsReached q first second (reached rs i)
+  pub left : (i : ℕ) → suc i < length rs → TurnsLeft (reached rs i).direction (reached rs (suc i)).direction

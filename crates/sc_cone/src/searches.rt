@@ -1,13 +1,13 @@
 //! Laws of the search for the corners of a quadrant.
 
-ghost use Rattle.std.specs.Prelude.{◌≡◌, ℤ, pos, ◌*ℤ◌, ◌<ℤ◌, ◌↔◌};
+ghost use Rattle.std.specs.Prelude.{◌≡◌, List, ℤ, pos, ◌*ℤ◌, ◌<ℤ◌, ◌↔◌};
 ghost use Rattle.sc_theory.specs.Chains.{Chain, IsChain};
 ghost use Rattle.sc_theory.specs.Prices.{Prices, Covers};
 ghost use Rattle.sc_cone.specs.declared.Direction.{Direction};
 ghost use Rattle.sc_cone.specs.declared.Quadrant.{Quadrant};
 ghost use Rattle.sc_cone.specs.Directions.{IsIn, TurnsLeft};
 ghost use Rattle.sc_cone.specs.Cones.{quadrant_chain};
-ghost use Rattle.sc_cone.specs.Searches.{Reached, IsReached, IsOpen, IsNext};
+ghost use Rattle.sc_cone.specs.Searches.{Reached, IsReached, IsOpen, IsNext, IsSearch, IsRow};
 ghost use Rattle.sc_cone.specs.Values.{IsValueOf, IsTightAt, list_num, list_den};
 
 /// Where the value of a chain is known, a list has it exactly where the two fractions are one number.
@@ -25,4 +25,10 @@ pub fn no_list_is_tight_again()
 pub fn next_direction_is_between()
     ensures between { (q : Quadrant) (first second : Chain) (r u : Reached) (x : Direction) → IsChain first → IsChain second → IsReached q first second r → IsReached q first second u → IsIn q r.direction → IsIn q u.direction → TurnsLeft r.direction u.direction → IsOpen q first second r u → IsNext q first second r u x → TurnsLeft r.direction x × TurnsLeft x u.direction }
     ensures one { (q : Quadrant) (first second : Chain) (r u : Reached) (x y : Direction) → IsChain first → IsChain second → IsReached q first second r → IsReached q first second u → IsIn q r.direction → IsIn q u.direction → TurnsLeft r.direction u.direction → IsOpen q first second r u → IsNext q first second r u x → IsNext q first second r u y → x ≡ y }
+{}
+
+/// The entries of a search are primitive directions of its quadrant, from its one end to the other, each to the left of the
+/// one before, with lists that cover the quadrant's chain and are tight there.
+pub fn searches_go_round()
+    ensures { (q : Quadrant) (first second : Chain) (rs : List Reached) → IsChain first → IsChain second → IsSearch q first second rs → IsRow q first second rs }
 {}

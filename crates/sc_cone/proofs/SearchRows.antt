@@ -1,0 +1,143 @@
+-- The entries of a search, in order.
+use Rattle.std.proofs.Common.{◌≡◌, ℕ, zero, suc, ◌<◌, List, [], ◌∷◌, ◌++◌, length, get_or, ℤ, pos, ◌<ℤ◌, arith, refl, sym, ap, subst, ◌∙◌}
+use Rattle.std.specs.Int.{IsGcd}
+use Rattle.std.proofs.lemmas.Int.{ints}
+use Rattle.std.proofs.Math.Nat.{one-dvd}
+use Rattle.std.proofs.lemmas.Nat.Gcd.{dvd-zero, dvd_refl}
+use Rattle.sc_theory.specs.Chains.{Chain, IsChain}
+use Rattle.sc_cone.specs.declared.Direction.{Direction}
+use Rattle.sc_cone.specs.declared.Quadrant.{Quadrant}
+use Rattle.sc_cone.specs.declared.Quadrant.TheVariants.{Lower, Upper}
+use Rattle.sc_cone.specs.Directions.{down, right, up, first_end, last_end, IsIn, IsPrimitive, TurnsLeft}
+use Rattle.sc_cone.specs.Searches.{Reached, reached, nothing_reached, IsReached, IsOpen, IsNext, IsSearch, begun, grown, IsRow}
+use Rattle.sc_cone.proofs.NextDirections.{next_between}
+
+-- the ends of a quadrant
+pub first_within : (q : Quadrant) → IsIn q (first_end q)
+first_within Lower = (omega (arith, ints), omega (arith, ints))
+first_within Upper = (omega (arith, ints), omega (arith, ints))
+
+pub last_within : (q : Quadrant) → IsIn q (last_end q)
+last_within Lower = (omega (arith, ints), omega (arith, ints))
+last_within Upper = (omega (arith, ints), omega (arith, ints))
+
+zero_one : IsGcd 0 1 1
+zero_one = (dvd-zero 1, dvd_refl 1, λ d p q. q)
+
+one_zero : IsGcd 1 0 1
+one_zero = (dvd_refl 1, dvd-zero 1, λ d p q. p)
+
+pub first_primitive : (q : Quadrant) → IsPrimitive (first_end q)
+first_primitive Lower = zero_one
+first_primitive Upper = one_zero
+
+pub last_primitive : (q : Quadrant) → IsPrimitive (last_end q)
+last_primitive Lower = one_zero
+last_primitive Upper = zero_one
+
+pub ends_turn : (q : Quadrant) → TurnsLeft (first_end q) (last_end q)
+ends_turn Lower = omega (arith, ints)
+ends_turn Upper = omega (arith, ints)
+
+module _ (q : Quadrant) (first second : Chain) where
+  pub record Stop (r : Reached) : Type 0 where
+    pub within : IsIn q r.direction
+    pub primitive : IsPrimitive r.direction
+    pub tight : IsReached q first second r
+
+  -- each entry, and each with the next
+  abbrev Next : Reached → List Reached → Type 0
+  Next r [] = Unit {0}
+  Next r (u ∷ rest) = TurnsLeft r.direction u.direction
+
+  abbrev Row : List Reached → Type 0
+  Row [] = Unit {0}
+  Row (r ∷ rest) = Stop r × Next r rest × Row rest
+
+  abbrev EndsAt : Direction → List Reached → Type 0
+  EndsAt d [] = ⊥
+  EndsAt d (r ∷ []) = r.direction ≡ d
+  EndsAt d (r ∷ u ∷ rest) = EndsAt d (u ∷ rest)
+
+  record Pair (r u : Reached) : Type 0 where
+    here : Stop r
+    there : Stop u
+    left : TurnsLeft r.direction u.direction
+
+  pair_in : (before : List Reached) (r u : Reached) (after : List Reached) → Row (before ++ r ∷ u ∷ after) → Pair r u
+  pair_in [] r u after row = record { here = row.0; there = row.2.0; left = row.1 }
+  pair_in (b ∷ before) r u after row = pair_in before r u after row.2
+
+  same_next : (b : Reached) (before : List Reached) (r : Reached) (rest more : List Reached) → Next b (before ++ r ∷ rest) → Next b (before ++ r ∷ more)
+  same_next b [] r rest more next = next
+  same_next b (c ∷ before) r rest more next = next
+
+  row_grown : (before : List Reached) (r x u : Reached) (after : List Reached) → Row (before ++ r ∷ u ∷ after) → Stop x → TurnsLeft r.direction x.direction → TurnsLeft x.direction u.direction → Row (before ++ r ∷ x ∷ u ∷ after)
+  row_grown [] r x u after row stop first_turn second_turn = (row.0, first_turn, (stop, second_turn, row.2))
+  row_grown (b ∷ before) r x u after row stop first_turn second_turn =
+      (row.0, same_next b before r (u ∷ after) (x ∷ u ∷ after) row.1, row_grown before r x u after row.2 stop first_turn second_turn)
+
+  ends_grown : (d : Direction) (before : List Reached) (r x u : Reached) (after : List Reached) → EndsAt d (before ++ r ∷ u ∷ after) → EndsAt d (before ++ r ∷ x ∷ u ∷ after)
+  ends_grown d [] r x u after ends = ends
+  ends_grown d (b ∷ []) r x u after ends = ends
+  ends_grown d (b ∷ c ∷ before) r x u after ends = ends_grown d (c ∷ before) r x u after ends
+
+  begins_grown : (before : List Reached) (r : Reached) (rest more : List Reached) → reached (before ++ r ∷ rest) 0 ≡ reached (before ++ r ∷ more) 0
+  begins_grown [] r rest more = refl
+  begins_grown (b ∷ before) r rest more = refl
+
+  record Entries (rs : List Reached) : Type 0 where
+    row : Row rs
+    begins : (reached rs 0).direction ≡ first_end q
+    ends : EndsAt (last_end q) rs
+
+  entries : IsChain first → IsChain second → (rs : List Reached) → IsSearch q first second rs → Entries rs
+  entries is_first is_second _ (begun {r} {u} begin end got_r got_u) = record {
+    row =
+        (record { within = subst (IsIn q) (sym begin) (first_within q); primitive = subst IsPrimitive (sym begin) (first_primitive q); tight = got_r },
+        subst (λ (d : Direction). TurnsLeft d u.direction) (sym begin) (subst (λ (d : Direction). TurnsLeft (first_end q) d) (sym end) (ends_turn q)),
+        (record { within = subst (IsIn q) (sym end) (last_within q); primitive = subst IsPrimitive (sym end) (last_primitive q); tight = got_u }, tt, tt));
+    begins = begin;
+    ends = end;
+  }
+  entries is_first is_second _ (grown before r x u after search both_open next got) =
+      let old : Entries (before ++ r ∷ u ∷ after) = entries is_first is_second (before ++ r ∷ u ∷ after) search in
+      let pair : Pair r u = pair_in before r u after old.row in
+      let turns = next_between q first second is_first is_second r u pair.here.tight pair.there.tight pair.here.within pair.there.within pair.left both_open x.direction next in
+      record {
+        row = row_grown before r x u after old.row (record { within = next.within; primitive = next.primitive; tight = got }) turns.0 turns.1;
+        begins = ap (λ (e : Reached). e.direction) (begins_grown before r (x ∷ u ∷ after) (u ∷ after)) ∙ old.begins;
+        ends = ends_grown (last_end q) before r x u after old.ends;
+      }
+
+  -- by numbers
+  stop_at : (rs : List Reached) → Row rs → (i : ℕ) → i < length rs → Stop (reached rs i)
+  stop_at [] row i inside = absurd (omega arith)
+  stop_at (r ∷ rs) row zero inside = row.0
+  stop_at (r ∷ rs) row (suc i) inside = stop_at rs row.2 i (omega arith)
+
+  left_at : (rs : List Reached) → Row rs → (i : ℕ) → suc i < length rs → TurnsLeft (reached rs i).direction (reached rs (suc i)).direction
+  left_at [] row i inside = absurd (omega arith)
+  left_at (r ∷ []) row i inside = absurd (omega arith)
+  left_at (r ∷ u ∷ rs) row zero inside = row.1
+  left_at (r ∷ u ∷ rs) row (suc i) inside = left_at (u ∷ rs) row.2 i (omega arith)
+
+  ends_at : (d : Direction) (rs : List Reached) → EndsAt d rs → (k : ℕ) → suc k ≡ length rs → (reached rs k).direction ≡ d
+  ends_at d [] ends k last = absurd ends
+  ends_at d (r ∷ []) ends zero last = ends
+  ends_at d (r ∷ []) ends (suc k) last = absurd (omega arith)
+  ends_at d (r ∷ u ∷ rs) ends zero last = absurd (omega arith)
+  ends_at d (r ∷ u ∷ rs) ends (suc k) last = ends_at d (u ∷ rs) ends k (omega arith)
+
+  from_entries : (rs : List Reached) → Entries rs → IsRow q first second rs
+  from_entries rs es = record {
+    begins = es.begins;
+    ends = ends_at (last_end q) rs es.ends;
+    within = λ i inside. (stop_at rs es.row i inside).within;
+    primitive = λ i inside. (stop_at rs es.row i inside).primitive;
+    tight = λ i inside. (stop_at rs es.row i inside).tight;
+    left = left_at rs es.row;
+  }
+
+  pub search_is_row : IsChain first → IsChain second → (rs : List Reached) → IsSearch q first second rs → IsRow q first second rs
+  search_is_row is_first is_second rs search = from_entries rs (entries is_first is_second rs search)
