@@ -13,6 +13,8 @@ pub mod Agreement
 pub mod Turning
 pub mod NextDirections
 pub mod SearchRows
+pub mod EmptyChains
+pub mod Crossings
 pub mod Corners
 pub mod SameFans
 pub mod Forms

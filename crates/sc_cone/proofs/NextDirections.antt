@@ -173,22 +173,26 @@ both_or d e =
     ]
 
 module _ (q : Quadrant) (first second : Chain) (is_first : IsChain first) (is_second : IsChain second) (r u : Reached) (got_r : IsReached q first second r) (got_u : IsReached q first second u) (in_r : IsIn q r.direction) (in_u : IsIn q u.direction) (left : TurnsLeft r.direction u.direction) (both_open : IsOpen q first second r u) where
-  more_at_r : pos 0 <ℤ surplus q first second r.list u.list r.direction
-  more_at_r =
+  pub more_at_first : pos 0 <ℤ (list_num (chain_of q first second r.direction) r.list *ℤ list_den u.list -ℤ list_num (chain_of q first second r.direction) u.list *ℤ list_den r.list)
+  more_at_first =
       let c : Chain = chain_of q first second r.direction in
-      subst (λ (x : ℤ). pos 0 <ℤ x) (surplus_is q first second r.list u.list r.direction in_r)
-      (less (list_num c u.list *ℤ list_den r.list) (list_num c r.list *ℤ list_den u.list)
+      less (list_num c u.list *ℤ list_den r.list) (list_num c r.list *ℤ list_den u.list)
       (at_most c u.list (list_num c r.list) (list_den r.list) (is_chain q first second r.direction is_first is_second) ((covers_all q first second u.list r.direction).0 got_u.covers) got_r.tight)
-      (λ same. both_open.back (value_moved c (list_num c r.list) (list_den r.list) (list_num c u.list) (list_den u.list) got_r.tight got_u.tight.above same)))
+      (λ same. both_open.back (value_moved c (list_num c r.list) (list_den r.list) (list_num c u.list) (list_den u.list) got_r.tight got_u.tight.above same))
 
-  less_at_u : surplus q first second r.list u.list u.direction <ℤ pos 0
-  less_at_u =
+  pub less_at_second : (list_num (chain_of q first second u.direction) r.list *ℤ list_den u.list -ℤ list_num (chain_of q first second u.direction) u.list *ℤ list_den r.list) <ℤ pos 0
+  less_at_second =
       let c : Chain = chain_of q first second u.direction in
-      subst (λ (x : ℤ). x <ℤ pos 0) (surplus_is q first second r.list u.list u.direction in_u)
-      (negative (list_num c r.list *ℤ list_den u.list) (list_num c u.list *ℤ list_den r.list)
+      negative (list_num c r.list *ℤ list_den u.list) (list_num c u.list *ℤ list_den r.list)
       (less (list_num c r.list *ℤ list_den u.list) (list_num c u.list *ℤ list_den r.list)
       (at_most c r.list (list_num c u.list) (list_den u.list) (is_chain q first second u.direction is_first is_second) ((covers_all q first second r.list u.direction).0 got_r.covers) got_u.tight)
-      (λ same. both_open.beyond (value_moved c (list_num c u.list) (list_den u.list) (list_num c r.list) (list_den r.list) got_u.tight got_r.tight.above same))))
+      (λ same. both_open.beyond (value_moved c (list_num c u.list) (list_den u.list) (list_num c r.list) (list_den r.list) got_u.tight got_r.tight.above same)))
+
+  more_at_r : pos 0 <ℤ surplus q first second r.list u.list r.direction
+  more_at_r = subst (λ (x : ℤ). pos 0 <ℤ x) (surplus_is q first second r.list u.list r.direction in_r) more_at_first
+
+  less_at_u : surplus q first second r.list u.list u.direction <ℤ pos 0
+  less_at_u = subst (λ (x : ℤ). x <ℤ pos 0) (surplus_is q first second r.list u.list u.direction in_u) less_at_second
 
   no_surplus : (x : Direction) → IsIn q x → SameValueAt q first second r.list u.list x → surplus q first second r.list u.list x ≡ pos 0
   no_surplus x in_x same = sym (surplus_is q first second r.list u.list x in_x) ∙ level _ _ same

@@ -75,9 +75,17 @@ size_above : (t : ℤ) → t <ℤ pos 0 → pos 0 <ℤ neg_ℤ t
 size_above t h = omega (arith, ints)
 
 -- what is to the right of another direction of the upper quadrant has s above 0
-right_part : (s t s' t' : ℤ) → pos 0 ≤ℤ t → pos 0 ≤ℤ s' → pos 0 ≤ℤ t' → pos 0 <ℤ (s *ℤ t' -ℤ t *ℤ s') → pos 0 <ℤ s
+pub right_part : (s t s' t' : ℤ) → pos 0 ≤ℤ t → pos 0 ≤ℤ s' → pos 0 ≤ℤ t' → pos 0 <ℤ (s *ℤ t' -ℤ t *ℤ s') → pos 0 <ℤ s
 right_part s t s' t' low low' up' h =
     product_positive s t' up' (omega (arith, ints, h, product_low t s' low low'))
+
+-- and so has what is to the left of another direction of the lower one
+pub left_part : (s t s' t' : ℤ) → pos 0 ≤ℤ s → t ≤ℤ pos 0 → t' ≤ℤ pos 0 → pos 0 <ℤ (s *ℤ t' -ℤ t *ℤ s') → pos 0 <ℤ s'
+left_part s t s' t' low down' down h =
+    product_positive s' (neg_ℤ t) (size_low t down') (omega (arith, ints, h, turned_back s' t, mul-le_factor s t' (pos 0) low down, mul-zero s))
+  where
+    turned_back : (a b : ℤ) → a *ℤ neg_ℤ b ≡ neg_ℤ (b *ℤ a)
+    turned_back a b = simp products (omega (arith, ints))
 
 pub turns_on : (q : Quadrant) (d e x : Direction) → IsIn q d → IsIn q e → IsIn q x → TurnsLeft d e → TurnsLeft e x → TurnsLeft d x
 turns_on Upper d e x in_d in_e in_x left next =

@@ -44,3 +44,11 @@ first_form first list = list_num first list
 abbrev pub second_form : Chain → Chain → Prices → ℤ
 second_form first second list =
     list.scale *ℤ pos (weighted_length second) -ℤ pos 2 *ℤ sum_below (λ w. pos (weight second w) *ℤ get_or list.base (length first + w) (pos 0)) (length second)
+
+-- by a common unit, what the list l gives more than the list m each time that the first chain is taken, and what m gives
+-- more than l each time that the second is: their values cross where these balance
+abbrev pub first_gap : Chain → Prices → Prices → ℤ
+first_gap first l m = first_form first l *ℤ list_den m -ℤ first_form first m *ℤ list_den l
+
+abbrev pub second_gap : Chain → Chain → Prices → Prices → ℤ
+second_gap first second l m = second_form first second m *ℤ list_den l -ℤ second_form first second l *ℤ list_den m

@@ -1,14 +1,14 @@
 //! Laws of the search for the corners of a quadrant.
 
-ghost use Rattle.std.specs.Prelude.{◌≡◌, List, ℤ, pos, ◌*ℤ◌, ◌<ℤ◌, ◌↔◌};
-ghost use Rattle.sc_theory.specs.Chains.{Chain, IsChain};
+ghost use Rattle.std.specs.Prelude.{◌≡◌, ◌<◌, List, ℤ, pos, ◌*ℤ◌, ◌<ℤ◌, unsigned_abs, ◌↔◌};
+ghost use Rattle.sc_theory.specs.Chains.{Chain, IsChain, weighted_length};
 ghost use Rattle.sc_theory.specs.Prices.{Prices, Covers};
 ghost use Rattle.sc_cone.specs.declared.Direction.{Direction};
 ghost use Rattle.sc_cone.specs.declared.Quadrant.{Quadrant};
 ghost use Rattle.sc_cone.specs.Directions.{IsIn, TurnsLeft};
 ghost use Rattle.sc_cone.specs.Cones.{quadrant_chain};
 ghost use Rattle.sc_cone.specs.Searches.{Reached, IsReached, IsOpen, IsNext, IsSearch, IsRow};
-ghost use Rattle.sc_cone.specs.Values.{IsValueOf, IsTightAt, list_num, list_den};
+ghost use Rattle.sc_cone.specs.Values.{IsValueOf, IsTightAt, SameValueAt, list_num, list_den, first_gap, second_gap};
 
 /// Where the value of a chain is known, a list has it exactly where the two fractions are one number.
 pub fn tight_by_the_known_value()
@@ -31,4 +31,18 @@ pub fn next_direction_is_between()
 /// one before, with lists that cover the quadrant's chain and are tight there.
 pub fn searches_go_round()
     ensures { (q : Quadrant) (first second : Chain) (rs : List Reached) → IsChain first → IsChain second → IsSearch q first second rs → IsRow q first second rs }
+{}
+
+/// Two lists have one value at a direction exactly where what they gain along the two chains balances; between neighbours
+/// neither of whose lists is tight at the other the two gaps are both above 0 or both below.
+pub fn crossing_by_forms()
+    ensures same { (q : Quadrant) (first second : Chain) (l m : Prices) (d : Direction) → SameValueAt q first second l m d ↔ (pos (unsigned_abs d.s) *ℤ first_gap first l m ≡ pos (unsigned_abs d.t) *ℤ second_gap first second l m) }
+    ensures one_sign { (q : Quadrant) (first second : Chain) (r u : Reached) → IsChain first → IsChain second → IsReached q first second r → IsReached q first second u → IsIn q r.direction → IsIn q u.direction → TurnsLeft r.direction u.direction → IsOpen q first second r u → pos 0 <ℤ (first_gap first r.list u.list *ℤ second_gap first second r.list u.list) }
+{}
+
+/// Where one of the two chains has no weighted length, no neighbours stay open. So a next direction has coordinates of at
+/// most its weighted length.
+pub fn open_neighbours_have_length()
+    ensures first { (q : Quadrant) (first second : Chain) (r u : Reached) → IsChain first → IsChain second → IsReached q first second r → IsReached q first second u → IsIn q r.direction → IsIn q u.direction → TurnsLeft r.direction u.direction → IsOpen q first second r u → 0 < weighted_length first }
+    ensures second { (q : Quadrant) (first second : Chain) (r u : Reached) → IsChain first → IsChain second → IsReached q first second r → IsReached q first second u → IsIn q r.direction → IsIn q u.direction → TurnsLeft r.direction u.direction → IsOpen q first second r u → 0 < weighted_length second }
 {}
