@@ -85,11 +85,11 @@ round f is =
     inner i inside = omega (arith, is.count)
 
 -- ---- signs
-quadrant_below : (t : ℤ) → t <ℤ pos 0 → quadrant_from t ≡ Lower
+pub quadrant_below : (t : ℤ) → t <ℤ pos 0 → quadrant_from t ≡ Lower
 quadrant_below (pos t) h = absurd (omega (arith, ints))
 quadrant_below (negsuc t) h = refl
 
-quadrant_above : (t : ℤ) → pos 0 ≤ℤ t → quadrant_from t ≡ Upper
+pub quadrant_above : (t : ℤ) → pos 0 ≤ℤ t → quadrant_from t ≡ Upper
 quadrant_above (pos t) h = refl
 quadrant_above (negsuc t) h = absurd (omega (arith, ints))
 

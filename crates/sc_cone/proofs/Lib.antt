@@ -18,3 +18,4 @@ pub mod Crossings
 pub mod Corners
 pub mod SameFans
 pub mod Forms
+pub mod Halves

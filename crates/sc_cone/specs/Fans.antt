@@ -5,7 +5,7 @@ use Rattle.sc_theory.specs.Prices.{Prices, Covers}
 use Rattle.sc_cone.specs.declared.Direction.{Direction}
 use Rattle.sc_cone.specs.declared.Quadrant.{Quadrant}
 use Rattle.sc_cone.specs.declared.Quadrant.TheVariants.{Lower, Upper}
-use Rattle.sc_cone.specs.Directions.{down, right, up, IsIn, IsPrimitive, TurnsLeft}
+use Rattle.sc_cone.specs.Directions.{down, right, up, first_end, last_end, IsIn, IsPrimitive, TurnsLeft}
 use Rattle.sc_cone.specs.Cones.{chain_of, quadrant_chain}
 use Rattle.sc_cone.specs.Values.{IsValueOf, IsTightAt}
 
@@ -69,3 +69,21 @@ pub record IsFan (f : Fan) : Type 0 where
   pub tight : (i : ℕ) → i < length f.edges → IsTightAt (quadrant_of f i) f.first f.second (edge f i).list (turn_to f i) × IsTightAt (quadrant_of f i) f.first f.second (edge f i).list (turn_to f (suc i))
   -- within a quadrant no list is tight at the far end of the next edge
   pub apart : (i : ℕ) → suc i < length f.edges → quadrant_of f i ≡ quadrant_of f (suc i) → IsTightAt (quadrant_of f i) f.first f.second (edge f i).list (turn_to f (suc (suc i))) → ⊥
+
+-- part of a fan within a quadrant: corners, each to the left of the one before, and an edge from each to the next
+pub record IsArc (q : Quadrant) (first second : Chain) (corners : List Corner) (edges : List Edge) : Type 0 where
+  pub count : suc (length edges) ≡ length corners
+  pub within : (i : ℕ) → i < length corners → IsIn q (get_or corners i no_corner).direction
+  pub primitive : (i : ℕ) → i < length corners → IsPrimitive (get_or corners i no_corner).direction
+  pub left : (i : ℕ) → suc i < length corners → TurnsLeft (get_or corners i no_corner).direction (get_or corners (suc i) no_corner).direction
+  pub values : (i : ℕ) → i < length corners → IsValueOf (chain_of q first second (get_or corners i no_corner).direction) (get_or corners i no_corner).value.0 (get_or corners i no_corner).value.1
+  pub joins : (i : ℕ) → i < length edges → ((get_or edges i no_edge).from ≡ get_or corners i no_corner) × ((get_or edges i no_edge).to ≡ get_or corners (suc i) no_corner)
+  pub covers : (i : ℕ) → i < length edges → Covers (quadrant_chain q first second) (get_or edges i no_edge).list
+  pub tight : (i : ℕ) → i < length edges → IsTightAt q first second (get_or edges i no_edge).list (get_or corners i no_corner).direction × IsTightAt q first second (get_or edges i no_edge).list (get_or corners (suc i) no_corner).direction
+  pub apart : (i : ℕ) → suc i < length edges → IsTightAt q first second (get_or edges i no_edge).list (get_or corners (suc (suc i)) no_corner).direction → ⊥
+
+-- the part of a fan in a whole quadrant
+pub record IsHalf (q : Quadrant) (first second : Chain) (corners : List Corner) (edges : List Edge) : Type 0 where
+  pub begins : (get_or corners 0 no_corner).direction ≡ first_end q
+  pub ends : (k : ℕ) → suc k ≡ length corners → (get_or corners k no_corner).direction ≡ last_end q
+  pub arc : IsArc q first second corners edges
