@@ -19,3 +19,4 @@ pub mod Corners
 pub mod SameFans
 pub mod Forms
 pub mod Halves
+pub mod Arcs

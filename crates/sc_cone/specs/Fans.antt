@@ -70,6 +70,12 @@ pub record IsFan (f : Fan) : Type 0 where
   -- within a quadrant no list is tight at the far end of the next edge
   pub apart : (i : ℕ) → suc i < length f.edges → quadrant_of f i ≡ quadrant_of f (suc i) → IsTightAt (quadrant_of f i) f.first f.second (edge f i).list (turn_to f (suc (suc i))) → ⊥
 
+-- a primitive direction of a quadrant with its value
+pub record IsGoodCorner (q : Quadrant) (first second : Chain) (c : Corner) : Type 0 where
+  pub within : IsIn q c.direction
+  pub primitive : IsPrimitive c.direction
+  pub value : IsValueOf (chain_of q first second c.direction) c.value.0 c.value.1
+
 -- part of a fan within a quadrant: corners, each to the left of the one before, and an edge from each to the next
 pub record IsArc (q : Quadrant) (first second : Chain) (corners : List Corner) (edges : List Edge) : Type 0 where
   pub count : suc (length edges) ≡ length corners

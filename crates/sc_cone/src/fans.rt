@@ -1,9 +1,14 @@
 //! Laws of fans.
 
-ghost use Rattle.std.specs.Prelude.{◌≡◌, ℕ, ◌<◌, List, [], ◌∷◌, ◌++◌, length, ◌*ℤ◌};
+ghost use Rattle.std.specs.Prelude.{◌≡◌, ℕ, suc, ◌<◌, List, [], ◌∷◌, ◌++◌, length, get_or, ◌*ℤ◌};
 ghost use Rattle.sc_theory.specs.Chains.{Chain, IsChain};
+ghost use Rattle.sc_theory.specs.Prices.{Prices, Covers};
+ghost use Rattle.sc_cone.specs.declared.Quadrant.{Quadrant};
 ghost use Rattle.sc_cone.specs.declared.Quadrant.TheVariants.{Lower, Upper};
-ghost use Rattle.sc_cone.specs.Fans.{Corner, Edge, Fan, IsFan, IsHalf, corner, turn_to};
+ghost use Rattle.sc_cone.specs.Directions.{TurnsLeft};
+ghost use Rattle.sc_cone.specs.Cones.{quadrant_chain};
+ghost use Rattle.sc_cone.specs.Values.{IsTightAt};
+ghost use Rattle.sc_cone.specs.Fans.{Corner, Edge, Fan, no_edge, corner, turn_to, IsFan, IsGoodCorner, IsArc, IsHalf};
 
 /// The corners of a fan are a function of its two chains: two fans of the same chains have as many corners, and each has the
 /// same direction and the same value.
@@ -16,4 +21,12 @@ pub fn corners_are_fixed_by_the_chains()
 /// The halves of two quadrants that meet in one corner are a fan.
 pub fn two_halves_are_a_fan()
     ensures { (first second : Chain) (before : List Corner) (c : Corner) (after : List Corner) (es fs : List Edge) → IsHalf Lower first second (before ++ c ∷ []) es → IsHalf Upper first second (c ∷ after) fs → IsFan (record { first = first; second = second; corners = before ++ c ∷ after; edges = es ++ fs }) }
+{}
+
+/// One corner is an arc. A further corner makes an arc longer: by an edge of its own where the last edge's list isn't tight
+/// there, and else as the new end of the last edge.
+pub fn arcs_grow()
+    ensures one { (q : Quadrant) (first second : Chain) (c : Corner) → IsGoodCorner q first second c → IsArc q first second (c ∷ []) [] }
+    ensures pushed { (q : Quadrant) (first second : Chain) (before : List Corner) (d : Corner) (es : List Edge) (x : Corner) (list : Prices) → IsArc q first second (before ++ d ∷ []) es → IsGoodCorner q first second x → TurnsLeft d.direction x.direction → Covers (quadrant_chain q first second) list → IsTightAt q first second list d.direction → IsTightAt q first second list x.direction → ((k : ℕ) → suc k ≡ length es → IsTightAt q first second (get_or es k no_edge).list x.direction → ⊥) → IsArc q first second (before ++ d ∷ x ∷ []) (es ++ (record { from = d; to = x; list = list }) ∷ []) }
+    ensures extended { (q : Quadrant) (first second : Chain) (before : List Corner) (d : Corner) (es : List Edge) (e : Edge) (x : Corner) → IsChain first → IsChain second → IsArc q first second (before ++ d ∷ []) (es ++ e ∷ []) → IsGoodCorner q first second x → TurnsLeft d.direction x.direction → IsTightAt q first second e.list x.direction → IsArc q first second (before ++ x ∷ []) (es ++ (record { from = e.from; to = x; list = e.list }) ∷ []) }
 {}
