@@ -20,3 +20,4 @@ pub mod SameFans
 pub mod Forms
 pub mod Halves
 pub mod Arcs
+pub mod ShortRows

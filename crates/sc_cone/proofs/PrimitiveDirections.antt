@@ -106,7 +106,7 @@ same_up a b p q e = from_zero a p ∙ ap pos e ∙ sym (from_zero b q)
 same_down : (a b : ℤ) → a ≤ℤ pos 0 → b ≤ℤ pos 0 → unsigned_abs a ≡ unsigned_abs b → a ≡ b
 same_down a b p q e = omega (arith, ints, to_zero a p, to_zero b q, e)
 
-same_within : (q : Quadrant) (d e : Direction) → IsIn q d → IsIn q e → unsigned_abs d.s ≡ unsigned_abs e.s → unsigned_abs d.t ≡ unsigned_abs e.t → d ≡ e
+pub same_within : (q : Quadrant) (d e : Direction) → IsIn q d → IsIn q e → unsigned_abs d.s ≡ unsigned_abs e.s → unsigned_abs d.t ≡ unsigned_abs e.t → d ≡ e
 same_within Upper d e in_d in_e p r =
     let s = same_up d.s e.s in_d.0 in_e.0 p in
     let t = same_up d.t e.t in_d.1 in_e.1 r in

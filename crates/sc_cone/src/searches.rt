@@ -1,13 +1,13 @@
 //! Laws of the search for the corners of a quadrant.
 
-ghost use Rattle.std.specs.Prelude.{◌≡◌, ◌<◌, List, ℤ, pos, ◌*ℤ◌, ◌<ℤ◌, unsigned_abs, ◌↔◌};
+ghost use Rattle.std.specs.Prelude.{◌≡◌, ℕ, suc, ◌*◌, ◌<◌, ◌≤◌, List, length, ℤ, pos, ◌*ℤ◌, ◌<ℤ◌, unsigned_abs, ◌↔◌};
 ghost use Rattle.sc_theory.specs.Chains.{Chain, IsChain, weighted_length};
 ghost use Rattle.sc_theory.specs.Prices.{Prices, Covers};
 ghost use Rattle.sc_cone.specs.declared.Direction.{Direction};
 ghost use Rattle.sc_cone.specs.declared.Quadrant.{Quadrant};
 ghost use Rattle.sc_cone.specs.Directions.{IsIn, TurnsLeft};
-ghost use Rattle.sc_cone.specs.Cones.{quadrant_chain};
-ghost use Rattle.sc_cone.specs.Searches.{Reached, IsReached, IsOpen, IsNext, IsSearch, IsRow};
+ghost use Rattle.sc_cone.specs.Cones.{chain_of, quadrant_chain};
+ghost use Rattle.sc_cone.specs.Searches.{Reached, reached, IsReached, IsOpen, IsNext, IsSearch, IsRow};
 ghost use Rattle.sc_cone.specs.Values.{IsValueOf, IsTightAt, SameValueAt, list_num, list_den, first_gap, second_gap};
 
 /// Where the value of a chain is known, a list has it exactly where the two fractions are one number.
@@ -40,9 +40,15 @@ pub fn crossing_by_forms()
     ensures one_sign { (q : Quadrant) (first second : Chain) (r u : Reached) → IsChain first → IsChain second → IsReached q first second r → IsReached q first second u → IsIn q r.direction → IsIn q u.direction → TurnsLeft r.direction u.direction → IsOpen q first second r u → pos 0 <ℤ (first_gap first r.list u.list *ℤ second_gap first second r.list u.list) }
 {}
 
-/// Where one of the two chains has no weighted length, no neighbours stay open. So a next direction has coordinates of at
-/// most its weighted length.
+/// Neighbours neither of whose lists is tight at the other are there only where both chains have a weighted length above 0.
+/// Then the coordinates of a direction are at most the weighted length of its chain.
 pub fn open_neighbours_have_length()
     ensures first { (q : Quadrant) (first second : Chain) (r u : Reached) → IsChain first → IsChain second → IsReached q first second r → IsReached q first second u → IsIn q r.direction → IsIn q u.direction → TurnsLeft r.direction u.direction → IsOpen q first second r u → 0 < weighted_length first }
     ensures second { (q : Quadrant) (first second : Chain) (r u : Reached) → IsChain first → IsChain second → IsReached q first second r → IsReached q first second u → IsIn q r.direction → IsIn q u.direction → TurnsLeft r.direction u.direction → IsOpen q first second r u → 0 < weighted_length second }
+    ensures coordinates { (q : Quadrant) (first second : Chain) (d : Direction) → 0 < weighted_length first → 0 < weighted_length second → (unsigned_abs d.s ≤ weighted_length (chain_of q first second d)) × (unsigned_abs d.t ≤ weighted_length (chain_of q first second d)) }
+{}
+
+/// The entries of a search are at most as many as there are pairs of coordinates.
+pub fn searches_are_short()
+    ensures { (q : Quadrant) (first second : Chain) (rs : List Reached) (n : ℕ) → IsRow q first second rs → ((i : ℕ) → i < length rs → (unsigned_abs (reached rs i).direction.s ≤ n) × (unsigned_abs (reached rs i).direction.t ≤ n)) → length rs ≤ suc n * suc n }
 {}
