@@ -1,10 +1,9 @@
 -- How arcs begin and grow: by a further corner with an edge of its own, or with the last edge gone on with.
-use Rattle.std.proofs.Common.{◌≡◌, ◌⊎◌, ℕ, zero, suc, ◌+◌, ◌-◌, ◌<◌, ◌≤◌, List, [], ◌∷◌, ◌++◌, length, get_or, ℤ, pos, ◌<ℤ◌, ◌≤ℤ◌, inl, inr, arith, refl, sym, ap, subst, ◌∙◌}
+use Rattle.std.proofs.Common.{◌≡◌, ℕ, zero, suc, ◌+◌, ◌<◌, ◌≤◌, List, [], ◌∷◌, ◌++◌, length, get_or, inl, inr, arith, refl, sym, ap, subst, ◌∙◌}
 use Rattle.std.proofs.lemmas.Bool.{cases_lt}
 use Rattle.std.proofs.lemmas.List.{length-append, get_or_append_left, get_or-append-add}
 use Rattle.sc_theory.specs.Chains.{Chain, IsChain}
 use Rattle.sc_theory.specs.Prices.{Prices, Covers}
-use Rattle.sc_cone.specs.declared.Direction.{Direction}
 use Rattle.sc_cone.specs.declared.Quadrant.{Quadrant}
 use Rattle.sc_cone.specs.Directions.{IsIn, IsPrimitive, TurnsLeft}
 use Rattle.sc_cone.specs.Cones.{chain_of, quadrant_chain}
@@ -142,12 +141,14 @@ module _ (q : Quadrant) (first second : Chain) where
       tight = λ i inside.
           elim (cases_lt i (length before)) [
             | inl here ↦
-                let both = arc.tight i (omega (arith, size_es)) in
-                (moved_tight (get_or es i no_edge) (get_or fs i no_edge) _ (get_or ds i no_corner) (old_edge i here) (old i (omega arith)) both.0,
-                moved_tight (get_or es i no_edge) (get_or fs i no_edge) _ (get_or ds (suc i) no_corner) (old_edge i here) (old (suc i) (omega arith)) both.1)
-            | inr past ↦
-                (moved_tight new (get_or fs i no_edge) d (get_or ds i no_corner) (new_edge i (omega (arith, size_fs))) (last i (omega (arith, size_fs))) at_d,
-                moved_tight new (get_or fs i no_edge) x (get_or ds (suc i) no_corner) (new_edge i (omega (arith, size_fs))) (further (suc i) (omega (arith, size_fs))) at_x)
+                let both = arc.tight i (omega (arith, size_es)) in (
+                  moved_tight (get_or es i no_edge) (get_or fs i no_edge) _ (get_or ds i no_corner) (old_edge i here) (old i (omega arith)) both.0,
+                  moved_tight (get_or es i no_edge) (get_or fs i no_edge) _ (get_or ds (suc i) no_corner) (old_edge i here) (old (suc i) (omega arith)) both.1,
+                )
+            | inr past ↦ (
+              moved_tight new (get_or fs i no_edge) d (get_or ds i no_corner) (new_edge i (omega (arith, size_fs))) (last i (omega (arith, size_fs))) at_d,
+              moved_tight new (get_or fs i no_edge) x (get_or ds (suc i) no_corner) (new_edge i (omega (arith, size_fs))) (further (suc i) (omega (arith, size_fs))) at_x,
+            )
           ];
       apart = λ i inside tight.
           elim (cases_lt (suc i) (length before)) [
@@ -254,14 +255,16 @@ module _ (q : Quadrant) (first second : Chain) where
       tight = λ i inside.
           elim (cases_lt i (length es)) [
             | inl here ↦
-                let both = arc.tight i (omega (arith, size_old_edges)) in
-                (moved_tight (get_or old_edges i no_edge) (get_or new_edges i no_edge) _ (get_or new_corners i no_corner) (kept_edge i here) (kept i (omega (arith, one_less))) both.0,
-                moved_tight (get_or old_edges i no_edge) (get_or new_edges i no_edge) _ (get_or new_corners (suc i) no_corner) (kept_edge i here) (kept (suc i) (omega (arith, one_less))) both.1)
+                let both = arc.tight i (omega (arith, size_old_edges)) in (
+                  moved_tight (get_or old_edges i no_edge) (get_or new_edges i no_edge) _ (get_or new_corners i no_corner) (kept_edge i here) (kept i (omega (arith, one_less))) both.0,
+                  moved_tight (get_or old_edges i no_edge) (get_or new_edges i no_edge) _ (get_or new_corners (suc i) no_corner) (kept_edge i here) (kept (suc i) (omega (arith, one_less))) both.1,
+                )
             | inr past ↦
                 let at : i ≡ length es = omega (arith, size_new_edges) in
-                let both = arc.tight i (omega (arith, size_old_edges)) in
-                (moved_tight longer (get_or new_edges i no_edge) _ (get_or new_corners i no_corner) (is_edge i at) (kept i (omega (arith, one_less))) (moved_tight (get_or old_edges i no_edge) e (get_or old_corners i no_corner) (get_or old_corners i no_corner) (was_edge i at) refl both.0),
-                moved_tight longer (get_or new_edges i no_edge) x (get_or new_corners (suc i) no_corner) (is_edge i at) (is_last (suc i) (omega (arith, one_less))) at_x)
+                let both = arc.tight i (omega (arith, size_old_edges)) in (
+                  moved_tight longer (get_or new_edges i no_edge) _ (get_or new_corners i no_corner) (is_edge i at) (kept i (omega (arith, one_less))) (moved_tight (get_or old_edges i no_edge) e (get_or old_corners i no_corner) (get_or old_corners i no_corner) (was_edge i at) refl both.0),
+                  moved_tight longer (get_or new_edges i no_edge) x (get_or new_corners (suc i) no_corner) (is_edge i at) (is_last (suc i) (omega (arith, one_less))) at_x,
+                )
           ];
       apart = λ i inside tight.
           let list : Prices = (get_or old_edges i no_edge).list in

@@ -1,8 +1,7 @@
 -- The corners of a fan are a function of the two chains: going round, neither of two fans can turn further than the other.
-use Rattle.std.proofs.Common.{◌≡◌, ◌⊎◌, ℕ, zero, suc, ◌+◌, ◌-◌, ◌<◌, length, ℤ, pos, negsuc, ◌-ℤ◌, ◌*ℤ◌, ◌<ℤ◌, ◌≤ℤ◌, inl, inr, arith, refl, sym, ap, subst, ◌∙◌}
+use Rattle.std.proofs.Common.{◌≡◌, ℕ, zero, suc, ◌+◌, ◌-◌, ◌<◌, length, ℤ, pos, negsuc, ◌<ℤ◌, ◌≤ℤ◌, inl, inr, arith, refl, sym, ap, subst, ◌∙◌}
 use Rattle.std.proofs.lemmas.Int.{ints}
 use Rattle.std.proofs.lemmas.Bool.{cases_lt, cases_order}
-use Rattle.sc_algebra.proofs.Ints.{mul_comm, sub_mul, mul-le_factor, mul-zero, zero-mul}
 use Rattle.sc_theory.specs.Chains.{Chain, IsChain}
 use Rattle.sc_theory.specs.Prices.{Prices, Covers}
 use Rattle.sc_cone.specs.declared.Direction.{Direction}

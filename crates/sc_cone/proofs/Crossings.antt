@@ -1,5 +1,5 @@
 -- Where the values of two lists cross, by their forms.
-use Rattle.std.proofs.Common.{◌≡◌, ◌⊎◌, ℕ, zero, suc, ◌<◌, ℤ, pos, negsuc, ◌+ℤ◌, ◌-ℤ◌, ◌*ℤ◌, ◌<ℤ◌, ◌≤ℤ◌, neg_ℤ, ◌↔◌, unsigned_abs, inl, inr, arith, refl, sym, ap, ap₂, subst, ◌∙◌}
+use Rattle.std.proofs.Common.{◌≡◌, ℕ, zero, suc, ℤ, pos, negsuc, ◌+ℤ◌, ◌-ℤ◌, ◌*ℤ◌, ◌<ℤ◌, ◌≤ℤ◌, neg_ℤ, ◌↔◌, unsigned_abs, arith, ap₂, subst, ◌∙◌}
 use Rattle.std.proofs.lemmas.Int.{ints}
 use Rattle.sc_algebra.proofs.Ints.{products, mul-zero, mul-le_left}
 use Rattle.sc_theory.specs.Chains.{Chain, IsChain}
@@ -11,7 +11,7 @@ use Rattle.sc_cone.specs.Cones.{chain_of}
 use Rattle.sc_cone.specs.Values.{SameValueAt, list_num, list_den, first_form, second_form, first_gap, second_gap}
 use Rattle.sc_cone.specs.Searches.{Reached, IsReached, IsOpen}
 use Rattle.sc_cone.proofs.Forms.{value_by_form}
-use Rattle.sc_cone.proofs.Turning.{cases_sign, product_above}
+use Rattle.sc_cone.proofs.Turning.{product_above}
 use Rattle.sc_cone.proofs.NextDirections.{more_at_first, less_at_second}
 
 difference : (a b f g h k u v : ℤ) → (a *ℤ f +ℤ b *ℤ g) *ℤ u -ℤ (a *ℤ h +ℤ b *ℤ k) *ℤ v ≡ a *ℤ (f *ℤ u -ℤ h *ℤ v) -ℤ b *ℤ (k *ℤ v -ℤ g *ℤ u)

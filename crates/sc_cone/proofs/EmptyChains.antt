@@ -1,18 +1,17 @@
 -- Where a chain has no weighted length, some list is tight at all directions of a quadrant: no two neighbours are open.
-use Rattle.std.proofs.Common.{◌≡◌, ◌≢◌, ℕ, zero, suc, ◌+◌, ◌*◌, ◌<◌, [], ◌∷◌, length, get_or, ℤ, pos, ◌*ℤ◌, ◌<ℤ◌, ◌≤ℤ◌, inl, inr, arith, refl, sym, ap, subst, ◌∙◌, eq-zero-or-pos}
+use Rattle.std.proofs.Common.{◌≡◌, ◌≢◌, ℕ, zero, suc, ◌+◌, ◌*◌, ◌<◌, [], ◌∷◌, length, get_or, ℤ, pos, ◌*ℤ◌, ◌<ℤ◌, ◌≤ℤ◌, arith, refl, sym, ap, ◌∙◌}
 use Rattle.std.proofs.lemmas.Int.{ints}
 use Rattle.std.proofs.lemmas.List.Sums.{sum_by-cons}
-use Rattle.sc_algebra.specs.Sums.{sum_below}
 use Rattle.sc_algebra.proofs.Ints.{mul-zero, zero-mul}
 use Rattle.sc_algebra.proofs.Sums.{sum_zero_each}
 use Rattle.sc_theory.specs.Words.{Word}
 use Rattle.sc_theory.specs.Chains.{Chain, IsChain, weight, word, weighted_length}
-use Rattle.sc_theory.specs.Fatgraphs.{Sides, vertices, IsFatgraph}
-use Rattle.sc_theory.specs.Prices.{Prices, Covers, bound, IsTight}
+use Rattle.sc_theory.specs.Fatgraphs.{IsFatgraph}
+use Rattle.sc_theory.specs.Prices.{Prices, Covers, bound}
 use Rattle.sc_cone.specs.declared.Direction.{Direction}
 use Rattle.sc_cone.specs.declared.Quadrant.{Quadrant}
 use Rattle.sc_cone.specs.declared.Quadrant.TheVariants.{Lower, Upper}
-use Rattle.sc_cone.specs.Directions.{down, right, up, IsIn, cross, TurnsLeft, IsBetween}
+use Rattle.sc_cone.specs.Directions.{down, right, up, IsIn, cross, TurnsLeft}
 use Rattle.sc_cone.specs.Cones.{chain_of, quadrant_chain}
 use Rattle.sc_cone.specs.Values.{IsValueOf, IsTightAt, list_num, list_den}
 use Rattle.sc_cone.specs.Searches.{Reached, IsReached, IsOpen}

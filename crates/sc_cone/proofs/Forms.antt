@@ -1,14 +1,14 @@
 -- The values of a list by its form.
-use Rattle.std.proofs.Common.{◌≡◌, ℕ, zero, suc, ◌+◌, ◌*◌, ◌<◌, [], ◌∷◌, ◌++◌, map, reverse, length, get_or, ℤ, pos, neg_ℤ, ◌+ℤ◌, ◌-ℤ◌, ◌*ℤ◌, ◌≤ℤ◌, unsigned_abs, arith, refl, sym, ap, ap₂, ◌∙◌}
+use Rattle.std.proofs.Common.{◌≡◌, ℕ, suc, ◌+◌, ◌*◌, [], ◌∷◌, reverse, length, get_or, ℤ, pos, neg_ℤ, ◌+ℤ◌, ◌-ℤ◌, ◌*ℤ◌, unsigned_abs, arith, refl, sym, ap, ap₂, ◌∙◌}
 use Rattle.std.proofs.lemmas.Int.{ints}
 use Rattle.std.proofs.lemmas.List.{length-map, length-reverse}
 use Rattle.std.proofs.lemmas.List.Sums.{sum_by-append, sum_by-cons}
 use Rattle.sc_algebra.specs.Sums.{sum_below}
-use Rattle.sc_algebra.proofs.Ints.{products, mul-zero, mul_neg}
+use Rattle.sc_algebra.proofs.Ints.{products, mul-zero}
 use Rattle.sc_algebra.proofs.Sums.{sum-congr, sum_first}
 use Rattle.sc_theory.specs.Words.{Word, inverse_letter, inverse_word}
 use Rattle.sc_theory.specs.Chains.{Chain, weight, weighted_length}
-use Rattle.sc_theory.specs.Prices.{Prices, bound}
+use Rattle.sc_theory.specs.Prices.{Prices}
 use Rattle.sc_cone.specs.declared.Direction.{Direction}
 use Rattle.sc_cone.specs.declared.Quadrant.{Quadrant}
 use Rattle.sc_cone.specs.declared.Quadrant.TheVariants.{Lower, Upper}

@@ -1,17 +1,17 @@
 -- The fan of two halves.
 use Rattle.std.proofs.Common.{◌≡◌, ℕ, zero, suc, ◌+◌, ◌-◌, ◌<◌, ◌≤◌, List, [], ◌∷◌, ◌++◌, length, get_or, ℤ, pos, ◌<ℤ◌, ◌≤ℤ◌, inl, inr, arith, refl, sym, ap, subst, ◌∙◌}
 use Rattle.std.proofs.lemmas.Int.{ints}
-use Rattle.std.proofs.lemmas.Bool.{cases_lt, cases_eq}
+use Rattle.std.proofs.lemmas.Bool.{cases_lt}
 use Rattle.std.proofs.lemmas.List.{length-append, get_or_append_left, get_or-append-add}
 use Rattle.sc_theory.specs.Chains.{Chain}
 use Rattle.sc_theory.specs.Prices.{Prices, Covers}
 use Rattle.sc_cone.specs.declared.Direction.{Direction}
 use Rattle.sc_cone.specs.declared.Quadrant.{Quadrant}
 use Rattle.sc_cone.specs.declared.Quadrant.TheVariants.{Lower, Upper}
-use Rattle.sc_cone.specs.Directions.{down, right, up, IsIn, IsPrimitive, TurnsLeft}
+use Rattle.sc_cone.specs.Directions.{IsIn, IsPrimitive, TurnsLeft}
 use Rattle.sc_cone.specs.Cones.{chain_of, quadrant_chain}
 use Rattle.sc_cone.specs.Values.{IsValueOf, IsTightAt}
-use Rattle.sc_cone.specs.Fans.{Corner, Edge, Fan, no_corner, no_edge, corner, edge, turn_to, quadrant_from, quadrant_of, IsFan, IsArc, IsHalf}
+use Rattle.sc_cone.specs.Fans.{Corner, Edge, Fan, no_corner, no_edge, corner, edge, turn_to, quadrant_from, quadrant_of, IsFan, IsHalf}
 use Rattle.sc_cone.proofs.Turning.{below_before, above_after}
 use Rattle.sc_cone.proofs.Corners.{quadrant_below, quadrant_above}
 
@@ -115,9 +115,10 @@ module _ (first second : Chain) (before : List Corner) (c : Corner) (after : Lis
             let joined = low.arc.joins i (omega (arith, low_edges)) in
             (ap (λ (x : Edge). x.from) (sym (edge_low i here)) ∙ joined.0 ∙ corner_low i (omega arith), ap (λ (x : Edge). x.to) (sym (edge_low i here)) ∙ joined.1 ∙ corner_low (suc i) (omega arith))
         | inr past ↦
-            let joined = high.arc.joins (i - length before) (omega (arith, all_edges)) in
-            (ap (λ (x : Edge). x.from) (sym (edge_high i past)) ∙ joined.0 ∙ corner_high i past,
-            ap (λ (x : Edge). x.to) (sym (edge_high i past)) ∙ joined.1 ∙ ap (λ (k : ℕ). get_or (c ∷ after) k no_corner) (after_next i past) ∙ corner_high (suc i) (omega arith))
+            let joined = high.arc.joins (i - length before) (omega (arith, all_edges)) in (
+              ap (λ (x : Edge). x.from) (sym (edge_high i past)) ∙ joined.0 ∙ corner_high i past,
+              ap (λ (x : Edge). x.to) (sym (edge_high i past)) ∙ joined.1 ∙ ap (λ (k : ℕ). get_or (c ∷ after) k no_corner) (after_next i past) ∙ corner_high (suc i) (omega arith),
+            )
       ]
 
   from_turn : (i : ℕ) → i < length (es ++ fs) → quadrant_of whole i ≡ quadrant_from (turn_to whole i).t
@@ -173,13 +174,15 @@ module _ (first second : Chain) (before : List Corner) (c : Corner) (after : Lis
   tight_at i inside =
       elim (cases_lt i (length before)) [
         | inl here ↦
-            let both = low.arc.tight i (omega (arith, low_edges)) in
-            (tight_moved first second Lower (quadrant_of whole i) _ (edge whole i).list _ (turn_to whole i) (sym (lower_edge i here)) (list_low i here) (turn_low i (omega arith)) both.0,
-            tight_moved first second Lower (quadrant_of whole i) _ (edge whole i).list _ (turn_to whole (suc i)) (sym (lower_edge i here)) (list_low i here) (turn_low (suc i) (omega arith)) both.1)
+            let both = low.arc.tight i (omega (arith, low_edges)) in (
+              tight_moved first second Lower (quadrant_of whole i) _ (edge whole i).list _ (turn_to whole i) (sym (lower_edge i here)) (list_low i here) (turn_low i (omega arith)) both.0,
+              tight_moved first second Lower (quadrant_of whole i) _ (edge whole i).list _ (turn_to whole (suc i)) (sym (lower_edge i here)) (list_low i here) (turn_low (suc i) (omega arith)) both.1,
+            )
         | inr past ↦
-            let both = high.arc.tight (i - length before) (omega (arith, all_edges)) in
-            (tight_moved first second Upper (quadrant_of whole i) _ (edge whole i).list _ (turn_to whole i) (sym (upper_edge i past inside)) (list_high i past) (turn_high i past) both.0,
-            tight_moved first second Upper (quadrant_of whole i) _ (edge whole i).list _ (turn_to whole (suc i)) (sym (upper_edge i past inside)) (list_high i past) (ap (λ (k : ℕ). (get_or (c ∷ after) k no_corner).direction) (after_next i past) ∙ turn_high (suc i) (omega arith)) both.1)
+            let both = high.arc.tight (i - length before) (omega (arith, all_edges)) in (
+              tight_moved first second Upper (quadrant_of whole i) _ (edge whole i).list _ (turn_to whole i) (sym (upper_edge i past inside)) (list_high i past) (turn_high i past) both.0,
+              tight_moved first second Upper (quadrant_of whole i) _ (edge whole i).list _ (turn_to whole (suc i)) (sym (upper_edge i past inside)) (list_high i past) (ap (λ (k : ℕ). (get_or (c ∷ after) k no_corner).direction) (after_next i past) ∙ turn_high (suc i) (omega arith)) both.1,
+            )
       ]
 
   apart_at : (i : ℕ) → suc i < length (es ++ fs) → quadrant_of whole i ≡ quadrant_of whole (suc i) → IsTightAt (quadrant_of whole i) first second (edge whole i).list (turn_to whole (suc (suc i))) → ⊥

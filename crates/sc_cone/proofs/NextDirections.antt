@@ -1,10 +1,7 @@
 -- The next direction between two neighbours of a search: strictly between them, and one.
-use Rattle.std.proofs.Common.{◌≡◌, ◌≢◌, ◌⊎◌, ℕ, zero, suc, ◌+◌, ◌<◌, ℤ, pos, negsuc, ◌+ℤ◌, ◌-ℤ◌, ◌*ℤ◌, ◌<ℤ◌, ◌≤ℤ◌, neg_ℤ, ◌↔◌, unsigned_abs, inl, inr, arith, refl, sym, ap, ap₂, subst, ◌∙◌, eq-zero-or-pos}
-use Rattle.std.specs.Int.{◌∣◌, IsGcd}
+use Rattle.std.proofs.Common.{◌≡◌, ◌≢◌, ◌⊎◌, ℕ, zero, suc, ◌+◌, ◌<◌, ℤ, pos, negsuc, ◌+ℤ◌, ◌-ℤ◌, ◌*ℤ◌, ◌<ℤ◌, ◌≤ℤ◌, neg_ℤ, ◌↔◌, unsigned_abs, inl, inr, arith, refl, sym, ap, ap₂, subst, ◌∙◌}
 use Rattle.std.proofs.lemmas.Int.{ints}
-use Rattle.std.proofs.lemmas.Nat.Gcd.{dvd-zero}
-use Rattle.std.proofs.Math.Nat.{eq-zero_of_zero-dvd}
-use Rattle.sc_algebra.proofs.Ints.{products, mul_comm, mul-zero, zero-mul, mul-le_factor, cancel_factor, le_antisymm}
+use Rattle.sc_algebra.proofs.Ints.{products, mul_comm, mul-zero, zero-mul, cancel_factor}
 use Rattle.sc_theory.specs.Chains.{Chain, IsChain}
 use Rattle.sc_theory.specs.Prices.{Prices, Covers}
 use Rattle.sc_cone.specs.declared.Direction.{Direction}
@@ -15,7 +12,7 @@ use Rattle.sc_cone.specs.Values.{IsValueOf, IsTightAt, SameValueAt, list_num, li
 use Rattle.sc_cone.specs.Searches.{Reached, IsReached, IsOpen, IsInside, IsNext}
 use Rattle.sc_cone.proofs.ConeChains.{covers_all}
 use Rattle.sc_cone.proofs.ConeWords.{is_chain}
-use Rattle.sc_cone.proofs.ValueLaws.{unique, value_moved, at_most, above_from_value}
+use Rattle.sc_cone.proofs.ValueLaws.{unique, value_moved, at_most}
 use Rattle.sc_cone.proofs.Forms.{signed, value_signed}
 use Rattle.sc_cone.proofs.Betweens.{plane_s, plane_t, tight_between}
 use Rattle.sc_cone.proofs.Agreement.{between_from_left}
@@ -217,9 +214,10 @@ module _ (q : Quadrant) (first second : Chain) (is_first : IsChain first) (is_se
   sum_between : (k : ℕ) (x : Direction) → IsCombination k 1 1 r.direction u.direction x → TurnsLeft r.direction x × TurnsLeft x u.direction
   sum_between k x is =
       let d = r.direction in
-      let e = u.direction in
-      (product_positive (cross d x) (pos k) (natural k) (subst (λ (t : ℤ). pos 0 <ℤ t) (sym (sum_before d.s d.t e.s e.t x.s x.t (pos k) is.first is.second)) left),
-      product_positive (cross x e) (pos k) (natural k) (subst (λ (t : ℤ). pos 0 <ℤ t) (sym (sum_after d.s d.t e.s e.t x.s x.t (pos k) is.first is.second)) left))
+      let e = u.direction in (
+        product_positive (cross d x) (pos k) (natural k) (subst (λ (t : ℤ). pos 0 <ℤ t) (sym (sum_before d.s d.t e.s e.t x.s x.t (pos k) is.first is.second)) left),
+        product_positive (cross x e) (pos k) (natural k) (subst (λ (t : ℤ). pos 0 <ℤ t) (sym (sum_after d.s d.t e.s e.t x.s x.t (pos k) is.first is.second)) left),
+      )
     where
       natural : (k : ℕ) → pos 0 ≤ℤ pos k
       natural k = omega (arith, ints)

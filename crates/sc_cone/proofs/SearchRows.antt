@@ -1,15 +1,14 @@
 -- The entries of a search, in order.
-use Rattle.std.proofs.Common.{◌≡◌, ℕ, zero, suc, ◌<◌, List, [], ◌∷◌, ◌++◌, length, get_or, ℤ, pos, ◌<ℤ◌, arith, refl, sym, ap, subst, ◌∙◌}
+use Rattle.std.proofs.Common.{◌≡◌, ℕ, zero, suc, ◌<◌, List, [], ◌∷◌, ◌++◌, length, arith, refl, sym, ap, subst, ◌∙◌}
 use Rattle.std.specs.Int.{IsGcd}
 use Rattle.std.proofs.lemmas.Int.{ints}
-use Rattle.std.proofs.Math.Nat.{one-dvd}
 use Rattle.std.proofs.lemmas.Nat.Gcd.{dvd-zero, dvd_refl}
 use Rattle.sc_theory.specs.Chains.{Chain, IsChain}
 use Rattle.sc_cone.specs.declared.Direction.{Direction}
 use Rattle.sc_cone.specs.declared.Quadrant.{Quadrant}
 use Rattle.sc_cone.specs.declared.Quadrant.TheVariants.{Lower, Upper}
-use Rattle.sc_cone.specs.Directions.{down, right, up, first_end, last_end, IsIn, IsPrimitive, TurnsLeft}
-use Rattle.sc_cone.specs.Searches.{Reached, reached, nothing_reached, IsReached, IsOpen, IsNext, IsSearch, begun, grown, IsRow}
+use Rattle.sc_cone.specs.Directions.{first_end, last_end, IsIn, IsPrimitive, TurnsLeft}
+use Rattle.sc_cone.specs.Searches.{Reached, reached, IsReached, IsSearch, begun, grown, IsRow}
 use Rattle.sc_cone.proofs.NextDirections.{next_between}
 
 -- the ends of a quadrant
@@ -93,10 +92,11 @@ module _ (q : Quadrant) (first second : Chain) where
 
   entries : IsChain first → IsChain second → (rs : List Reached) → IsSearch q first second rs → Entries rs
   entries is_first is_second _ (begun {r} {u} begin end got_r got_u) = record {
-    row =
-        (record { within = subst (IsIn q) (sym begin) (first_within q); primitive = subst IsPrimitive (sym begin) (first_primitive q); tight = got_r },
-        subst (λ (d : Direction). TurnsLeft d u.direction) (sym begin) (subst (λ (d : Direction). TurnsLeft (first_end q) d) (sym end) (ends_turn q)),
-        (record { within = subst (IsIn q) (sym end) (last_within q); primitive = subst IsPrimitive (sym end) (last_primitive q); tight = got_u }, tt, tt));
+    row = (
+      record { within = subst (IsIn q) (sym begin) (first_within q); primitive = subst IsPrimitive (sym begin) (first_primitive q); tight = got_r },
+      subst (λ (d : Direction). TurnsLeft d u.direction) (sym begin) (subst (λ (d : Direction). TurnsLeft (first_end q) d) (sym end) (ends_turn q)),
+      (record { within = subst (IsIn q) (sym end) (last_within q); primitive = subst IsPrimitive (sym end) (last_primitive q); tight = got_u }, tt, tt),
+    );
     begins = begin;
     ends = end;
   }

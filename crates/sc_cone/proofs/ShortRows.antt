@@ -1,5 +1,5 @@
 -- Rows of directions with bounded coordinates are short, and the coordinates of open neighbours' next directions are bounded.
-use Rattle.std.proofs.Common.{◌≡◌, ℕ, zero, suc, ◌+◌, ◌-◌, ◌*◌, ◌/◌, ◌%◌, ◌<◌, ◌≤◌, List, length, ℤ, pos, ◌-ℤ◌, ◌*ℤ◌, ◌<ℤ◌, unsigned_abs, inl, inr, arith, refl, sym, ap, ap₂, subst, ◌∙◌, mul-le-mul_left, mul-le-mul_right}
+use Rattle.std.proofs.Common.{◌≡◌, ℕ, zero, suc, ◌+◌, ◌-◌, ◌*◌, ◌<◌, ◌≤◌, List, length, unsigned_abs, inl, inr, arith, ap, subst, mul-le-mul_left, mul-le-mul_right}
 use Rattle.std.proofs.lemmas.Int.{ints}
 use Rattle.std.proofs.lemmas.Bool.{cases_lt}
 use Rattle.sc_algebra.proofs.Ints.{mul_comm}
@@ -7,7 +7,7 @@ use Rattle.sc_algebra.proofs.Cycles.{pigeonhole}
 use Rattle.sc_theory.specs.Chains.{Chain, weighted_length}
 use Rattle.sc_cone.specs.declared.Direction.{Direction}
 use Rattle.sc_cone.specs.declared.Quadrant.{Quadrant}
-use Rattle.sc_cone.specs.Directions.{IsIn, TurnsLeft}
+use Rattle.sc_cone.specs.Directions.{TurnsLeft}
 use Rattle.sc_cone.specs.Cones.{chain_of}
 use Rattle.sc_cone.specs.Searches.{Reached, reached, IsRow}
 use Rattle.sc_cone.proofs.Forms.{length_by_form}

@@ -1,5 +1,5 @@
 -- Signs of areas, and turning left within a quadrant.
-use Rattle.std.proofs.Common.{◌≡◌, ◌⊎◌, ℕ, zero, suc, ◌<◌, ℤ, pos, negsuc, ◌+ℤ◌, ◌-ℤ◌, ◌*ℤ◌, ◌<ℤ◌, ◌≤ℤ◌, neg_ℤ, inl, inr, arith, refl, sym, ap, ◌∙◌}
+use Rattle.std.proofs.Common.{◌≡◌, ◌⊎◌, zero, suc, ℤ, pos, negsuc, ◌+ℤ◌, ◌-ℤ◌, ◌*ℤ◌, ◌<ℤ◌, ◌≤ℤ◌, neg_ℤ, inl, inr, arith, refl}
 use Rattle.std.proofs.lemmas.Int.{ints}
 use Rattle.sc_algebra.proofs.Ints.{products, mul_comm, sub_mul, mul-le_factor, mul-zero, zero-mul}
 use Rattle.sc_cone.specs.declared.Direction.{Direction}
