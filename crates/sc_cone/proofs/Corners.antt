@@ -98,7 +98,7 @@ nothing_after_up x low left = omega (arith, ints)
 
 module _ (first second : Chain) (n : ℕ) (turn : ℕ → Direction) (list : ℕ → Prices) (is : Round first second n turn list) where
   -- below the first axis before it is passed, and above it afterwards
-  before_axis : (k i : ℕ) → i + suc k ≡ is.passes.0 → (turn i).t <ℤ pos 0
+  pub before_axis : (k i : ℕ) → i + suc k ≡ is.passes.0 → (turn i).t <ℤ pos 0
   before_axis zero i e =
       let next : turn (suc i) ≡ right = ap turn (omega arith) ∙ is.passes.2 in
       let left : TurnsLeft (turn i) right = subst (λ (x : Direction). TurnsLeft (turn i) x) next (is.left i (omega (arith, is.passes.1))) in
@@ -109,7 +109,7 @@ module _ (first second : Chain) (n : ℕ) (turn : ℕ → Direction) (list : ℕ
       at_most_zero : (t : ℤ) → t <ℤ pos 0 → t ≤ℤ pos 0
       at_most_zero t h = omega (arith, ints)
 
-  after_axis : (k i : ℕ) → is.passes.0 + k ≡ i → i < n → pos 0 ≤ℤ (turn i).t
+  pub after_axis : (k i : ℕ) → is.passes.0 + k ≡ i → i < n → pos 0 ≤ℤ (turn i).t
   after_axis zero i e inside =
       let here : turn i ≡ right = ap turn (omega arith) ∙ is.passes.2 in
       subst (λ (x : Direction). pos 0 ≤ℤ x.t) (sym here) (omega (arith, ints))

@@ -21,3 +21,4 @@ pub mod Forms
 pub mod Halves
 pub mod Arcs
 pub mod ShortRows
+pub mod WholePlane

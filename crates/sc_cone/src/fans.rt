@@ -3,12 +3,13 @@
 ghost use Rattle.std.specs.Prelude.{◌≡◌, ℕ, suc, ◌<◌, List, [], ◌∷◌, ◌++◌, length, get_or, ◌*ℤ◌};
 ghost use Rattle.sc_theory.specs.Chains.{Chain, IsChain};
 ghost use Rattle.sc_theory.specs.Prices.{Prices, Covers};
+ghost use Rattle.sc_cone.specs.declared.Direction.{Direction};
 ghost use Rattle.sc_cone.specs.declared.Quadrant.{Quadrant};
 ghost use Rattle.sc_cone.specs.declared.Quadrant.TheVariants.{Lower, Upper};
-ghost use Rattle.sc_cone.specs.Directions.{TurnsLeft};
+ghost use Rattle.sc_cone.specs.Directions.{IsIn, IsBetween, TurnsLeft};
 ghost use Rattle.sc_cone.specs.Cones.{quadrant_chain};
 ghost use Rattle.sc_cone.specs.Values.{IsTightAt};
-ghost use Rattle.sc_cone.specs.Fans.{Corner, Edge, Fan, no_edge, corner, turn_to, IsFan, IsGoodCorner, IsArc, IsHalf};
+ghost use Rattle.sc_cone.specs.Fans.{Corner, Edge, Fan, no_edge, corner, edge, turn_to, quadrant_of, IsFan, IsGoodCorner, IsArc, IsHalf};
 
 /// The corners of a fan are a function of its two chains: two fans of the same chains have as many corners, and each has the
 /// same direction and the same value.
@@ -29,4 +30,12 @@ pub fn arcs_grow()
     ensures one { (q : Quadrant) (first second : Chain) (c : Corner) → IsGoodCorner q first second c → IsArc q first second (c ∷ []) [] }
     ensures pushed { (q : Quadrant) (first second : Chain) (before : List Corner) (d : Corner) (es : List Edge) (x : Corner) (list : Prices) → IsArc q first second (before ++ d ∷ []) es → IsGoodCorner q first second x → TurnsLeft d.direction x.direction → Covers (quadrant_chain q first second) list → IsTightAt q first second list d.direction → IsTightAt q first second list x.direction → ((k : ℕ) → suc k ≡ length es → IsTightAt q first second (get_or es k no_edge).list x.direction → ⊥) → IsArc q first second (before ++ d ∷ x ∷ []) (es ++ (record { from = d; to = x; list = list }) ∷ []) }
     ensures extended { (q : Quadrant) (first second : Chain) (before : List Corner) (d : Corner) (es : List Edge) (e : Edge) (x : Corner) → IsChain first → IsChain second → IsArc q first second (before ++ d ∷ []) (es ++ e ∷ []) → IsGoodCorner q first second x → TurnsLeft d.direction x.direction → IsTightAt q first second e.list x.direction → IsArc q first second (before ++ x ∷ []) (es ++ (record { from = e.from; to = x; list = e.list }) ∷ []) }
+{}
+
+/// Each edge of a fan lies in its quadrant, and on the whole cone between its ends the value of each direction is that of
+/// its list. Each direction of a quadrant lies in the cone of one of its edges.
+pub fn edges_tell_all_values()
+    ensures within { (f : Fan) (i : ℕ) → IsFan f → i < length f.edges → IsIn (quadrant_of f i) (turn_to f i) × IsIn (quadrant_of f i) (turn_to f (suc i)) }
+    ensures values { (f : Fan) (i : ℕ) (x : Direction) → IsChain f.first → IsChain f.second → IsFan f → i < length f.edges → IsBetween (turn_to f i) (turn_to f (suc i)) x → IsTightAt (quadrant_of f i) f.first f.second (edge f i).list x }
+    ensures cover { (f : Fan) (q : Quadrant) (x : Direction) → IsFan f → IsIn q x → (i : ℕ) × (i < length f.edges) × (quadrant_of f i ≡ q) × IsBetween (turn_to f i) (turn_to f (suc i)) x }
 {}
