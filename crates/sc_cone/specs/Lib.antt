@@ -4,3 +4,4 @@ pub mod Values
 pub mod Unions
 pub mod Fans
 pub mod Searches
+pub mod Examples
