@@ -22,4 +22,4 @@ pub mod Halves
 pub mod Arcs
 pub mod ShortRows
 pub mod WholePlane
-pub mod FlatFan
+pub mod FanExamples

@@ -6,7 +6,7 @@ ghost use Rattle.sc_cone.specs.declared.Quadrant.TheVariants.{Lower, Upper};
 ghost use Rattle.sc_cone.specs.Directions.{down, right, up, cross};
 ghost use Rattle.sc_cone.specs.Cones.{chain_of};
 ghost use Rattle.sc_cone.specs.Fans.{IsFan};
-ghost use Rattle.sc_cone.specs.Examples.{flat_fan, four_corners};
+ghost use Rattle.sc_cone.specs.Examples.{flat_fan, four_corners, commutators_fan};
 
 /// The chains of some directions in the plane of the commutator taken twice.
 pub fn chains_by_example()
@@ -15,8 +15,10 @@ pub fn chains_by_example()
     ensures turns { (cross down right ≡ pos 1) × (cross right up ≡ pos 1) }
 {}
 
-/// A fan with three corners; with a corner more, at which the list before is tight as well, it is none.
+/// A fan with three corners; with a corner more, at which the list before is tight as well, it is none. The fan of the
+/// commutators abAB and cdCD, with the value 1/2 at the three ends.
 pub fn fan_by_example()
     ensures fan { IsFan flat_fan }
     ensures refused { IsFan four_corners → ⊥ }
+    ensures commutators { IsFan commutators_fan }
 {}
