@@ -6,22 +6,27 @@ use Rattle.sc_line.proofs.FaultLaws.{faultless_first}
 use Rattle.sc_certificate.specs.Certificates.{certificate_plan}
 use Rattle.sc_prices.specs.declared.verdict.Condition.TheVariants.{Flaw}
 use Rattle.sc_app.specs.declared.command.Command.{Command}
-use Rattle.sc_app.specs.declared.command.Command.TheVariants.{Surface, Check, Scl}
+use Rattle.sc_app.specs.declared.command.Command.TheVariants.{Surface, Shape, Check, Svg, Scl}
 use Rattle.sc_app.specs.declared.status.Status.{Status}
 use Rattle.sc_app.specs.declared.status.Status.TheVariants.{Done, Malformed, Large, Rejected, Budget, Wide, Sides}
 use Rattle.sc_app.specs.declared.status.What.TheVariants.{Words, Positions}
-use Rattle.sc_app.specs.Surface.{SurfaceResponds, SurfaceAccepts, IsSurfaceStatus}
+use Rattle.sc_theory.specs.Chains.{Chain}
+use Rattle.sc_theory.specs.Fatgraphs.{Sides as SideList}
+use Rattle.sc_app.specs.Said.{RespondsBySides, SaysSurface, IsStatusOfSides}
+use Rattle.sc_app.specs.Surface.{IsReport}
+use Rattle.sc_app.specs.Shape.{IsShape}
+use Rattle.sc_app.specs.Svg.{IsPicture}
 use Rattle.sc_app.specs.Check.{CheckResponds, CheckAccepts, IsCheckStatus}
 use Rattle.sc_app.specs.Scl.{SclResponds, SclAccepts, IsSclStatus}
 use Rattle.sc_app.specs.Answers.{AnswersTo, IsAccepted, IsOwnStatus}
 use Rattle.sc_app.proofs.Inputs.{certificate_faultless, says_no_fault}
 use Rattle.sc_app.proofs.Chains.{good_or_malformed, same_lines}
 
-own_of_surface : (input text : List ℕ) (s : Status) → SurfaceAccepts input → SurfaceResponds input s text → IsSurfaceStatus s
-own_of_surface input text Done a r = tt
-own_of_surface input text (Rejected (Flaw kind place)) a r = tt
-own_of_surface input text (Malformed at kind) a r = absurd (says_no_fault input a.0 a.1 a.2 at kind a.3 r.0)
-own_of_surface input text _ a r = absurd r
+own_of_sides : (Tells : Chain → ℕ → SideList → List ℕ → Type 0) (input text : List ℕ) (s : Status) → SaysSurface input → RespondsBySides Tells input s text → IsStatusOfSides s
+own_of_sides Tells input text Done a r = tt
+own_of_sides Tells input text (Rejected (Flaw kind place)) a r = tt
+own_of_sides Tells input text (Malformed at kind) a r = absurd (says_no_fault input a.0 a.1 a.2 at kind a.3 r.0)
+own_of_sides Tells input text _ a r = absurd r
 
 own_of_check : (input text : List ℕ) (s : Status) → CheckAccepts input → CheckResponds input s text → IsCheckStatus s
 own_of_check input text Done a r = tt
@@ -45,8 +50,12 @@ own_of_scl n input text _ a r = absurd r.3
 
 pub own_status : (c : Command) (input text : List ℕ) (s : Status) → IsAccepted c input → AnswersTo c input s text → IsOwnStatus c input s
 own_status Surface input text s a (inl long) = absurd (omega (arith, a.0, long.0))
-own_status Surface input text s a (inr r) = own_of_surface input text s a.1 r.1
+own_status Surface input text s a (inr r) = own_of_sides IsReport input text s a.1 r.1
+own_status Shape input text s a (inl long) = absurd (omega (arith, a.0, long.0))
+own_status Shape input text s a (inr r) = own_of_sides IsShape input text s a.1 r.1
 own_status Check input text s a (inl long) = absurd (omega (arith, a.0, long.0))
 own_status Check input text s a (inr r) = own_of_check input text s a.1 r.1
+own_status Svg input text s a (inl long) = absurd (omega (arith, a.0, long.0))
+own_status Svg input text s a (inr r) = own_of_sides IsPicture input text s a.1 r.1
 own_status (Scl pivots) input text s a (inl long) = absurd (omega (arith, a.0, long.0))
 own_status (Scl pivots) input text s a (inr r) = own_of_scl pivots input text s a.1 r.1

@@ -12,7 +12,7 @@ use Rattle.sc_line.proofs.LineLaws.{number_of-spelling, number_of_is}
 use Rattle.sc_line.proofs.NumberLaws.{between-natural, natural_from}
 use Rattle.sc_text.specs.declared.limits.TheConstants.{MAX_PIVOTS}
 use Rattle.sc_app.specs.declared.command.Command.{Command}
-use Rattle.sc_app.specs.declared.command.Command.TheVariants.{Surface, Check, Scl}
+use Rattle.sc_app.specs.declared.command.Command.TheVariants.{Surface, Shape, Check, Svg, Scl}
 use Rattle.sc_app.specs.declared.limits.TheConstants.{DEFAULT_PIVOTS}
 use Rattle.sc_app.specs.Forms.{IsForm, HasNoForm, pivots_in, pivots_of, AreWordsOfScl}
 
@@ -63,11 +63,13 @@ pivots_spelled word n e =
 
 -- ---- the forms of `scl`
 
-by_tests : (a b c : Bool) (n : ℕ) → (if a then Some Surface else if b then Some Check else if c then Some (Scl DEFAULT_PIVOTS) else None) ≡ Some (Scl n) → (c ≡ true) × (n ≡ DEFAULT_PIVOTS)
-by_tests true b c n e = absurd (cc)
-by_tests false true c n e = absurd (cc)
-by_tests false false true n e = (refl, cc)
-by_tests false false false n e = absurd (cc)
+by_tests : (a b c d e : Bool) (n : ℕ) → (if a then Some Surface else if b then Some Shape else if c then Some Check else if d then Some Svg else if e then Some (Scl DEFAULT_PIVOTS) else None) ≡ Some (Scl n) → (e ≡ true) × (n ≡ DEFAULT_PIVOTS)
+by_tests true b c d e n is = absurd (cc)
+by_tests false true c d e n is = absurd (cc)
+by_tests false false true d e n is = absurd (cc)
+by_tests false false false true e n is = absurd (cc)
+by_tests false false false false true n is = (refl, cc)
+by_tests false false false false false n is = absurd (cc)
 
 by_option : (a : Bool) (o : Option ℕ) (n : ℕ) → (if a then option_map Scl o else None) ≡ Some (Scl n) → (a ≡ true) × (o ≡ Some n)
 by_option true None n e = absurd (cc)
@@ -77,7 +79,7 @@ by_option false o n e = absurd (cc)
 scl_words : (n : ℕ) (words : List (List ℕ)) → IsForm (Scl n) words → AreWordsOfScl n words
 scl_words n [] e = absurd (cc)
 scl_words n (word ∷ []) e =
-    let t = by_tests (bytes_eq word (codes "surface")) (bytes_eq word (codes "check")) (bytes_eq word (codes "scl")) n e in
+    let t = by_tests (bytes_eq word (codes "surface")) (bytes_eq word (codes "shape")) (bytes_eq word (codes "check")) (bytes_eq word (codes "svg")) (bytes_eq word (codes "scl")) n e in
     inl (ap (λ (w : List ℕ). w ∷ []) ((bytes_eq-Decides word (codes "scl")).0 t.0), t.1)
 scl_words n (word ∷ option ∷ []) e = absurd (cc)
 scl_words n (word ∷ option ∷ number ∷ []) e =

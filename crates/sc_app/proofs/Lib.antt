@@ -1,4 +1,8 @@
 pub mod Taken
+pub mod FirstPlaces
+pub mod ShapeTexts
+pub mod ShapeLaws
+pub mod DrawingLaws
 pub mod Forms
 pub mod Reports
 pub mod Inputs

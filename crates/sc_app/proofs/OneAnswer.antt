@@ -18,14 +18,16 @@ use Rattle.sc_prices.specs.declared.verdict.Condition.TheVariants.{Flaw}
 use Rattle.sc_prices.specs.Conditions.{AllHold, IsFirstFailing}
 use Rattle.sc_prices.proofs.Failing.{one_failing, none_failing}
 use Rattle.sc_app.specs.declared.command.Command.{Command}
-use Rattle.sc_app.specs.declared.command.Command.TheVariants.{Surface, Check, Scl}
+use Rattle.sc_app.specs.declared.command.Command.TheVariants.{Surface, Shape, Check, Svg, Scl}
 use Rattle.sc_app.specs.declared.status.Status.{Status}
 use Rattle.sc_app.specs.declared.status.Status.TheVariants.{Done, Malformed, Large, Rejected, Budget, Wide}
 use Rattle.sc_app.specs.declared.status.Status.TheVariants as statuses
 use Rattle.sc_app.specs.declared.status.What.TheVariants.{Words, Positions}
 use Rattle.sc_app.specs.Forms.{IsForm}
-use Rattle.sc_app.specs.Said.{IsCertificateText, Says, plan_for}
-use Rattle.sc_app.specs.Surface.{SurfaceResponds}
+use Rattle.sc_app.specs.Said.{IsCertificateText, Says, RespondsBySides, plan_for}
+use Rattle.sc_app.specs.Surface.{IsReport}
+use Rattle.sc_app.specs.Shape.{IsShape}
+use Rattle.sc_app.specs.Svg.{IsPicture}
 use Rattle.sc_app.specs.Check.{CheckResponds}
 use Rattle.sc_app.specs.Scl.{SclResponds, HasSeveralAnswers}
 use Rattle.sc_app.proofs.Inputs.{certificate_faultless, same_certificate, says_no_fault, same_surface}
@@ -46,18 +48,18 @@ flaw_along c n g d m h kind place same f =
     (subst (λ (x : ℕ). IsFirstFlaw d x g kind place) same.copies
     (subst (λ (x : Chain). IsFirstFlaw x n g kind place) same.words f))
 
--- what a status of `surface` comes of
+-- what the status of a command comes of that tells of the sides of its input
 abbrev SurfaceCause : List ℕ → Status → Type 0
 SurfaceCause input s =
     ((at : ℕ) × (kind : Kind) × (s ≡ Malformed at kind) × IsFirstFault (plan_for input) input at kind)
     ⊎ (((kind : FlawKind) × (place : ℕ) × (c : Chain) × (n : ℕ) × (g : Sides) × (s ≡ Rejected (Flaw kind place)) × Says input c n g × IsFirstFlaw c n g kind place)
     ⊎ ((c : Chain) × (n : ℕ) × (g : Sides) × (s ≡ Done) × Says input c n g × IsFatgraph c n g))
 
-surface_cause : (input text : List ℕ) (s : Status) → SurfaceResponds input s text → SurfaceCause input s
-surface_cause input text (Malformed at kind) r = inl (at, kind, refl, r.0)
-surface_cause input text (Rejected (Flaw kind place)) r = inr (inl (kind, place, r.0, r.1, r.2, refl, r.3, r.4))
-surface_cause input text Done r = inr (inr (r.0, r.1, r.2, refl, r.4, r.5))
-surface_cause input text _ r = absurd r
+surface_cause : (Tells : Chain → ℕ → Sides → List ℕ → Type 0) (input text : List ℕ) (s : Status) → RespondsBySides Tells input s text → SurfaceCause input s
+surface_cause Tells input text (Malformed at kind) r = inl (at, kind, refl, r.0)
+surface_cause Tells input text (Rejected (Flaw kind place)) r = inr (inl (kind, place, r.0, r.1, r.2, refl, r.3, r.4))
+surface_cause Tells input text Done r = inr (inr (r.0, r.1, r.2, refl, r.3, r.4))
+surface_cause Tells input text _ r = absurd r
 
 one_surface_status : (input : List ℕ) (s s' : Status) → SurfaceCause input s → SurfaceCause input s' → s ≡ s'
 one_surface_status input s s' (inl a) (inl b) =
@@ -156,7 +158,9 @@ one_scl_status input s s' (inr a) (inr b) =
 -- ---- commands
 
 one_response : (c : Command) (input text text' : List ℕ) (s s' : Status) → IsDetermined c input → Responds c input s text → Responds c input s' text' → s ≡ s'
-one_response Surface input text text' s s' one r r' = one_surface_status input s s' (surface_cause input text s r) (surface_cause input text' s' r')
+one_response Surface input text text' s s' one r r' = one_surface_status input s s' (surface_cause IsReport input text s r) (surface_cause IsReport input text' s' r')
+one_response Shape input text text' s s' one r r' = one_surface_status input s s' (surface_cause IsShape input text s r) (surface_cause IsShape input text' s' r')
+one_response Svg input text text' s s' one r r' = one_surface_status input s s' (surface_cause IsPicture input text s r) (surface_cause IsPicture input text' s' r')
 one_response Check input text text' s s' one r r' = one_check_status input s s' (check_cause input text s r) (check_cause input text' s' r')
 one_response (Scl pivots) input text text' s s' one r r' = one_scl_status input s s' (scl_cause pivots input text s one r) (scl_cause pivots input text' s' one r')
 

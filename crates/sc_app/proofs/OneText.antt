@@ -12,20 +12,25 @@ use Rattle.sc_reduce.specs.Lines.{chain_of}
 use Rattle.sc_certificate.specs.Certificates.{Certificate}
 use Rattle.sc_prices.specs.declared.verdict.Condition.TheVariants.{Flaw}
 use Rattle.sc_app.specs.declared.command.Command.{Command}
-use Rattle.sc_app.specs.declared.command.Command.TheVariants.{Surface, Check, Scl}
+use Rattle.sc_app.specs.declared.command.Command.TheVariants.{Surface, Shape, Check, Svg, Scl}
 use Rattle.sc_app.specs.declared.status.Status.{Status}
 use Rattle.sc_app.specs.declared.status.Status.TheVariants.{Done, Malformed, Large, Rejected, Budget, Wide}
 use Rattle.sc_app.specs.declared.status.Status.TheVariants as statuses
 use Rattle.sc_app.specs.declared.status.What.TheVariants.{Words, Positions}
-use Rattle.sc_app.specs.Surface.{SurfaceResponds, report}
+use Rattle.sc_text.proofs.SurfaceLaws.{SameSurface}
+use Rattle.sc_app.specs.Surface.{IsReport, report}
+use Rattle.sc_app.specs.Shape.{IsShape}
+use Rattle.sc_app.specs.Svg.{IsPicture}
 use Rattle.sc_app.specs.Check.{CheckResponds, optimal}
 use Rattle.sc_app.specs.Scl.{SclResponds, IsInfinite, HasSeveralAnswers}
-use Rattle.sc_app.specs.Said.{Refuses}
+use Rattle.sc_app.specs.Said.{Refuses, RespondsBySides}
 use Rattle.sc_app.specs.declared.command.Reading.{Reading}
 use Rattle.sc_app.specs.declared.command.Reading.TheVariants.{Nothing, AtMost}
 use Rattle.sc_app.specs.Answers.{Responds, RespondsBy, IsDetermined, DeterminedBy}
 use Rattle.sc_app.proofs.Inputs.{same_certificate, same_surface}
 use Rattle.sc_app.proofs.Chains.{same_lines, same_infinite}
+use Rattle.sc_app.proofs.ShapeLaws.{one_shape}
+use Rattle.sc_app.proofs.DrawingLaws.{one_drawing}
 
 -- ---- surfaces
 
@@ -40,23 +45,30 @@ same_fraction : (g : Sides) (n : ℕ) (f f' : Frac) → 0 < n → IsQuotient (co
 same_fraction g n f f' some q q' =
     same_frac f f' (same_quotients (numerator f) (denominator f) (numerator f') (denominator f') (cost g) (pos (2 * n)) (λ none. omega (arith, ints, none)) q q')
 
-same_report : (input : List ℕ) (c : Chain) (n : ℕ) (g : Sides) (f : Frac) (d : Chain) (m : ℕ) (h : Sides) (f' : Frac) → IsFatgraph d m h → g ≡ h → n ≡ m
-    → IsQuotient (cost g) (pos (2 * n)) f → IsQuotient (cost h) (pos (2 * m)) f' → report g f ≡ report h f'
-same_report input c n g f d m h f' fatgraph sides copies q q' =
-    let along : IsQuotient (cost h) (pos (2 * m)) f =
-    subst (λ (k : ℕ). IsQuotient (cost h) (pos (2 * k)) f) copies (subst (λ (x : Sides). IsQuotient (cost x) (pos (2 * n)) f) sides q) in
-    ap₂ report sides (same_fraction h m f f' fatgraph.copies along q')
+one_report : (c : Chain) (n : ℕ) (g : Sides) (text text' : List ℕ) → IsFatgraph c n g → IsReport c n g text → IsReport c n g text' → text ≡ text'
+one_report c n g text text' fatgraph r r' = r.2 ∙ ap (report g) (same_fraction g n r.0 r'.0 fatgraph.copies r.1 r'.1) ∙ sym r'.2
 
 refusal_text : (input text text' : List ℕ) (s : Status) → Refuses input s text → Refuses input s text' → text ≡ text'
 refusal_text input text text' (Malformed at kind) r r' = r.1 ∙ sym r'.1
 refusal_text input text text' (Rejected (Flaw kind place)) r r' = r.5 ∙ sym r'.5
 refusal_text input text text' _ r r' = absurd r
 
-surface_text : (input text text' : List ℕ) (s : Status) → SurfaceResponds input s text → SurfaceResponds input s text' → text ≡ text'
-surface_text input text text' Done r r' =
-    let same = same_surface input r.0 r.1 r.2 r'.0 r'.1 r'.2 r.4 r'.4 in
-    r.7 ∙ same_report input r.0 r.1 r.2 r.3 r'.0 r'.1 r'.2 r'.3 r'.5 same.sides same.copies r.6 r'.6 ∙ sym r'.7
-surface_text input text text' s r r' = refusal_text input text text' s r r'
+-- what is told of one surface is told of the same surface
+told_along : (Tells : Chain → ℕ → Sides → List ℕ → Type 0) (text : List ℕ) (c : Chain) (n : ℕ) (g : Sides) (d : Chain) (m : ℕ) (h : Sides) → SameSurface c n g d m h → Tells c n g text → Tells d m h text
+told_along Tells text c n g d m h same told =
+    subst (λ (x : Sides). Tells d m x text) same.sides
+    (subst (λ (x : ℕ). Tells d x g text) same.copies
+    (subst (λ (x : Chain). Tells x n g text) same.words told))
+
+-- one text is told of each surface
+abbrev TellsOnce : (Chain → ℕ → Sides → List ℕ → Type 0) → Type 0
+TellsOnce Tells = (c : Chain) (n : ℕ) (g : Sides) (text text' : List ℕ) → IsFatgraph c n g → Tells c n g text → Tells c n g text' → text ≡ text'
+
+sides_text : (Tells : Chain → ℕ → Sides → List ℕ → Type 0) → TellsOnce Tells → (input text text' : List ℕ) (s : Status) → RespondsBySides Tells input s text → RespondsBySides Tells input s text' → text ≡ text'
+sides_text Tells once input text text' Done r r' =
+    let same = same_surface input r.0 r.1 r.2 r'.0 r'.1 r'.2 r.3 r'.3 in
+    once r'.0 r'.1 r'.2 text text' r'.4 (told_along Tells text r.0 r.1 r.2 r'.0 r'.1 r'.2 same r.5) r'.5
+sides_text Tells once input text text' s r r' = refusal_text input text text' s r r'
 
 -- ---- certificates
 
@@ -88,7 +100,9 @@ scl_text n input text text' _ one r r' = absurd r.3
 -- ---- commands
 
 response_text : (c : Command) (input text text' : List ℕ) (s : Status) → IsDetermined c input → Responds c input s text → Responds c input s text' → text ≡ text'
-response_text Surface input text text' s one r r' = surface_text input text text' s r r'
+response_text Surface input text text' s one r r' = sides_text IsReport one_report input text text' s r r'
+response_text Shape input text text' s one r r' = sides_text IsShape (λ c n g text text' fatgraph told told'. one_shape c n g text text' told told') input text text' s r r'
+response_text Svg input text text' s one r r' = sides_text IsPicture (λ c n g text text' fatgraph told told'. one_drawing c n g fatgraph text text' told told') input text text' s r r'
 response_text Check input text text' s one r r' = check_text input text text' s r r'
 response_text (Scl pivots) input text text' s one r r' = scl_text pivots input text text' s one r r'
 

@@ -16,8 +16,8 @@ use Rattle.sc_chain.specs.declared.lines.RawLine.{RawLine}
 use Rattle.sc_chain.specs.ChainText.{IsChainText}
 use Rattle.sc_reduce.specs.Lines.{chain_of, IsWithin}
 use Rattle.sc_app.specs.Notes.{line}
-use Rattle.sc_app.specs.Said.{Says, Refuses}
-use Rattle.sc_app.specs.Surface.{SurfaceResponds, euler, report, fraction_label}
+use Rattle.sc_app.specs.Said.{Says, Refuses, RespondsBySides}
+use Rattle.sc_app.specs.Surface.{euler, report, fraction_label}
 use Rattle.sc_app.specs.Scl.{SclResponds, IsValueOf, IsToldBy}
 use Rattle.sc_app.specs.declared.status.Status.{Status}
 use Rattle.sc_app.specs.declared.status.Status.TheVariants.{Done, Budget, Wide}
@@ -45,9 +45,10 @@ of_cost g v e n m f is_v is_e is_m h =
     (subst (λ (k : ℕ). IsQuotient (pos k -ℤ pos (vertices g)) (pos (2 * m)) f) is_e
     (subst (λ (k : ℕ). IsQuotient (pos e -ℤ pos k) (pos (2 * m)) f) is_v h))
 
-pub reported : (input : List ℕ) (f : Surface) (items : List ℕ) → Says input f.chain f.copies f.sides × IsFatgraph f.chain f.copies f.sides
-    → ((q : Frac) × IsQuotient (cost f.sides) (pos (2 * f.copies)) q × (items ≡ report f.sides q)) → SurfaceResponds input Done items
-reported input f items said told = (f.chain, f.copies, f.sides, told.0, said.0, said.1, told.1, told.2)
+-- what is told of the surface that an input says is an answer to it
+pub told : (Tells : Chain → ℕ → Sides → List ℕ → Type 0) (input : List ℕ) (f : Surface) (items : List ℕ) → Says input f.chain f.copies f.sides × IsFatgraph f.chain f.copies f.sides
+    → Tells f.chain f.copies f.sides items → RespondsBySides Tells input Done items
+told Tells input f items said tells = (f.chain, f.copies, f.sides, said.0, said.1, tells)
 
 pub valued : (n : ℕ) (input : List ℕ) (lines : List RawLine) (c : Chain) → IsChainText input lines → c ≡ chain_of lines → IsWithin (chain_of lines)
     → (s : Status) (text : List ℕ) → IsValueOf n c s text → SclResponds n input s text
@@ -57,10 +58,10 @@ valued n input lines c read same within Wide text v = (lines, read, within, subs
 valued n input lines c read same within statuses.Sides text v = (lines, read, within, subst (λ (d : Chain). IsValueOf n d statuses.Sides text) same v)
 valued n input lines c read same within _ text v = absurd v
 
--- why an input says no surface is what `surface` answers
-pub refused : (input text : List ℕ) (s : Status) → Refuses input s text → SurfaceResponds input s text
-refused input text Done r = absurd r
-refused input text s r = r
+-- so is why it says none
+pub refused : (Tells : Chain → ℕ → Sides → List ℕ → Type 0) (input text : List ℕ) (s : Status) → Refuses input s text → RespondsBySides Tells input s text
+refused Tells input text Done r = absurd r
+refused Tells input text s r = r
 
 -- ---- solutions and refusals
 

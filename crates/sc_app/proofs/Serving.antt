@@ -3,7 +3,7 @@ use Rattle.std.proofs.Common.{◌≡◌, ℕ, ◌≤◌, ◌⊎◌, inl, inr, Li
 use Rattle.std.proofs.lemmas.List.{drop_all}
 use Rattle.sc_outside.specs.Told.{Delivered, Took, TookPart}
 use Rattle.sc_app.specs.declared.command.Command.{Command}
-use Rattle.sc_app.specs.declared.command.Command.TheVariants.{Surface, Check, Scl}
+use Rattle.sc_app.specs.declared.command.Command.TheVariants.{Surface, Shape, Check, Svg, Scl}
 use Rattle.sc_app.specs.declared.command.Reading.{Reading}
 use Rattle.sc_app.specs.declared.command.Reading.TheVariants.{Nothing, AtMost}
 use Rattle.sc_app.specs.declared.status.Status.{Status}
@@ -12,8 +12,12 @@ use Rattle.sc_app.specs.declared.status.What.TheVariants.{Words, Positions}
 use Rattle.sc_prices.specs.declared.verdict.Condition.TheVariants.{Flaw}
 use Rattle.sc_app.specs.Kinds.{StatusKind, WithText, WithoutText, PastLimit, Unasked, NotRead, NotWritten, NoMemory, kind_of}
 use Rattle.sc_app.specs.Reading.{reads, Fits, ReadWhole, ReadsUpTo, NeedsNoSource}
-use Rattle.sc_app.specs.Said.{Refuses}
-use Rattle.sc_app.specs.Surface.{SurfaceResponds}
+use Rattle.sc_theory.specs.Chains.{Chain}
+use Rattle.sc_theory.specs.Fatgraphs.{Sides as SideList}
+use Rattle.sc_app.specs.Said.{Refuses, RespondsBySides}
+use Rattle.sc_app.specs.Surface.{IsReport}
+use Rattle.sc_app.specs.Shape.{IsShape}
+use Rattle.sc_app.specs.Svg.{IsPicture}
 use Rattle.sc_app.specs.Check.{CheckResponds}
 use Rattle.sc_app.specs.Scl.{SclResponds}
 use Rattle.sc_app.specs.Answers.{Responds, RespondsBy, AnswersTo, EndsBy}
@@ -30,9 +34,9 @@ refusal_suits input text (Malformed at kind) r = r.1
 refusal_suits input text (Rejected (Flaw kind place)) r = tt
 refusal_suits input text _ r = absurd r
 
-surface_suits : (input text : List ℕ) (s : Status) → SurfaceResponds input s text → Suits (kind_of s) text
-surface_suits input text Done r = tt
-surface_suits input text s r = refusal_suits input text s r
+sides_suit : (Tells : Chain → ℕ → SideList → List ℕ → Type 0) (input text : List ℕ) (s : Status) → RespondsBySides Tells input s text → Suits (kind_of s) text
+sides_suit Tells input text Done r = tt
+sides_suit Tells input text s r = refusal_suits input text s r
 
 check_suits : (input text : List ℕ) (s : Status) → CheckResponds input s text → Suits (kind_of s) text
 check_suits input text (Malformed at kind) r = r.1
@@ -51,7 +55,9 @@ scl_suits n input text Sides r = tt
 scl_suits n input text _ r = absurd r.3
 
 suits : (c : Command) (input text : List ℕ) (s : Status) → Responds c input s text → Suits (kind_of s) text
-suits Surface input text s r = surface_suits input text s r
+suits Surface input text s r = sides_suit IsReport input text s r
+suits Shape input text s r = sides_suit IsShape input text s r
+suits Svg input text s r = sides_suit IsPicture input text s r
 suits Check input text s r = check_suits input text s r
 suits (Scl pivots) input text s r = scl_suits pivots input text s r
 

@@ -40,7 +40,7 @@ use Rattle.std.proofs.lemmas.Nat.Gcd.{IsGcd-swap}
 use Rattle.sc_whole.proofs.DivisorLaws.{gcd_exists, IsGcd-pos}
 use Rattle.sc_algebra.proofs.Ints.{products}
 use Rattle.sc_app.specs.declared.command.Command.{Command}
-use Rattle.sc_app.specs.declared.command.Command.TheVariants.{Surface, Check, Scl}
+use Rattle.sc_app.specs.declared.command.Command.TheVariants.{Surface, Shape, Check, Svg, Scl}
 use Rattle.sc_app.specs.declared.command.Reading.{Reading}
 use Rattle.sc_app.specs.declared.command.Reading.TheVariants.{Nothing, AtMost}
 use Rattle.sc_app.specs.declared.said.Heading.TheVariants.{CertificateText, SurfaceText}
@@ -49,28 +49,18 @@ use Rattle.sc_app.specs.declared.status.Status.TheVariants.{Done, Malformed, Lar
 use Rattle.sc_app.specs.declared.status.What.TheVariants.{Bytes, Words, Positions}
 use Rattle.sc_app.specs.Reading.{reads}
 use Rattle.sc_app.specs.Rejections.{rejection}
-use Rattle.sc_app.specs.Said.{IsCertificateText, Says, is_headed_as_certificate, plan_of, plan_for}
-use Rattle.sc_app.specs.Surface.{SurfaceResponds, report}
+use Rattle.sc_app.specs.Said.{IsCertificateText, Says, RespondsBySides, is_headed_as_certificate, plan_of, plan_for}
+use Rattle.sc_app.specs.Surface.{IsReport, report}
+use Rattle.sc_app.specs.Shape.{IsShape}
+use Rattle.sc_app.specs.Svg.{IsPicture}
 use Rattle.sc_app.specs.Check.{CheckResponds, optimal}
 use Rattle.sc_app.specs.Scl.{SclResponds, HasSeveralAnswers, infinite}
 use Rattle.sc_app.specs.Answers.{Responds, RespondsBy, AnswersTo, IsDetermined, DeterminedBy}
+use Rattle.sc_app.proofs.FirstPlaces.{none_at_all, first_some}
+use Rattle.sc_app.proofs.ShapeLaws.{some_shape}
+use Rattle.sc_app.proofs.DrawingLaws.{some_drawing}
 
--- ---- first places
-
--- where no number is the first that has a fact, none has it
-none_first : (P : ℕ → Type 0) → ((i : ℕ) → P i → ((j : ℕ) → j < i → ¬ P j) → ⊥) → (n i : ℕ) → i < n → ¬ P i
-none_first P never zero i h = absurd (omega arith)
-none_first P never (suc n) i h = λ p. never i p (λ j less. none_first P never n j (omega arith))
-
-none_at_all : (P : ℕ → Type 0) → ((i : ℕ) → P i → ((j : ℕ) → j < i → ¬ P j) → ⊥) → (i : ℕ) → ¬ P i
-none_at_all P never i = none_first P never (suc i) i (omega arith)
-
-first_some : {A : Type 0} (f : ℕ → Option A) → ((i : ℕ) (x : A) → f i ≡ Some x → ((j : ℕ) → j < i → f j ≡ None) → ⊥) → (n i : ℕ) → i < n → f i ≡ None
-first_some f never zero i h = absurd (omega arith)
-first_some f never (suc n) i h = elim (cases_option (f i)) [
-  | inl absent ↦ absent
-  | inr there ↦ absurd (never i there.0 there.1 (λ j less. first_some f never n j (omega arith)))
-]
+-- ---- texts and sides
 
 -- a text without a first fault has none
 faultless : (plan : Plan) (input : List ℕ) → ((i : ℕ) (kind : Kind) → fault_at plan input i ≡ Some kind → ((j : ℕ) → j < i → fault_at plan input j ≡ None) → ⊥) → IsFaultless plan input
@@ -92,7 +82,7 @@ module _ (c : Chain) (n : ℕ) (g : Sides) (some : 0 < n) (never : (kind : FlawK
 
 -- ---- surfaces
 
-module _ (input : List ℕ) (none : (s : Status) (text : List ℕ) → ¬ SurfaceResponds input s text) where
+module _ (Tells : Chain → ℕ → Sides → List ℕ → Type 0) (input : List ℕ) (none : (s : Status) (text : List ℕ) → ¬ RespondsBySides Tells input s text) where
   good_surface : IsFaultless (plan_for input) input
   good_surface = faultless (plan_for input) input (λ i kind here before. none (Malformed i kind) [] (record { here = here; least = before }, refl))
 
@@ -128,14 +118,13 @@ module _ (input : List ℕ) (none : (s : Status) (text : List ℕ) → ¬ Surfac
         }
   ]
 
-  pub surface_answered : ((z : ℤ) (n : ℕ) → 0 < n → (f : Frac) × IsQuotient z (pos (2 * n)) f) → ⊥
-  surface_answered fraction =
+  sides_answered : ((c : Chain) (n : ℕ) (g : Sides) → IsFatgraph c n g → ((text : List ℕ) → ¬ Tells c n g text) → ⊥) → ⊥
+  sides_answered some =
       let t = of_surface in
       let fatgraph : IsFatgraph t.chain t.copies t.sides =
       is_fatgraph t.chain t.copies t.sides t.some
       (λ kind place first. none (Rejected (Flaw kind place)) (rejection (Flaw kind place)) (t.chain, t.copies, t.sides, t.says, first, refl)) in
-      let f = fraction (cost t.sides) t.copies t.some in
-      none Done (report t.sides f.0) (t.chain, t.copies, t.sides, f.0, t.says, fatgraph, f.1, refl)
+      some t.chain t.copies t.sides fatgraph (λ text tells. none Done text (t.chain, t.copies, t.sides, t.says, fatgraph, tells))
 
 -- ---- certificates
 
@@ -311,8 +300,15 @@ frac_exists z m some =
     regroup : (k a b : ℤ) → a *ℤ (k *ℤ b) ≡ (k *ℤ a) *ℤ b
     regroup k a b = simp products (omega (arith, ints))
 
+some_report : (c : Chain) (n : ℕ) (g : Sides) → IsFatgraph c n g → ((text : List ℕ) → ¬ IsReport c n g text) → ⊥
+some_report c n g fatgraph never =
+    let f = frac_exists (cost g) (2 * n) (omega (arith, fatgraph.copies)) in
+    never (report g f.0) (f.0, f.1, refl)
+
 answered : (c : Command) (input : List ℕ) → IsDetermined c input → ((s : Status) (text : List ℕ) → ¬ Responds c input s text) → ⊥
-answered Surface input one none = surface_answered input none (λ z n some. frac_exists z (2 * n) (omega (arith, some)))
+answered Surface input one none = sides_answered IsReport input none (λ c n g fatgraph never. some_report c n g fatgraph never)
+answered Shape input one none = sides_answered IsShape input none (λ c n g fatgraph never. some_shape c n g never)
+answered Svg input one none = sides_answered IsPicture input none (λ c n g fatgraph never. some_drawing c n g fatgraph never)
 answered Check input one none = check_answered input none
 answered (Scl pivots) input one none = scl_answered pivots input one none
 

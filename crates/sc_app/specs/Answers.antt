@@ -2,7 +2,7 @@
 use Rattle.std.specs.Prelude.{◌≡◌, ℕ, ◌<◌, ◌≤◌, ◌⊎◌, List, [], length, Option, IfSome}
 use Rattle.sc_outside.specs.Told.{Took, TookPart}
 use Rattle.sc_app.specs.declared.command.Command.{Command}
-use Rattle.sc_app.specs.declared.command.Command.TheVariants.{Surface, Check, Scl}
+use Rattle.sc_app.specs.declared.command.Command.TheVariants.{Surface, Shape, Check, Svg, Scl}
 use Rattle.sc_app.specs.declared.command.Reading.{Reading}
 use Rattle.sc_app.specs.declared.command.Reading.TheVariants.{Nothing, AtMost}
 use Rattle.sc_app.specs.declared.status.Status.{Status}
@@ -12,14 +12,19 @@ use Rattle.sc_app.specs.Forms.{IsForm, HasNoForm}
 use Rattle.sc_app.specs.Kinds.{StatusKind, WithText, WithoutText, PastLimit, Unasked, NotRead, NotWritten, NoMemory, kind_of}
 use Rattle.sc_app.specs.Notes.{note_of}
 use Rattle.sc_app.specs.Reading.{reads, given, MayRead, IsUntouched}
-use Rattle.sc_app.specs.Surface.{SurfaceResponds, SurfaceAccepts, IsSurfaceStatus}
+use Rattle.sc_app.specs.Said.{SaysSurface, IsStatusOfSides}
+use Rattle.sc_app.specs.Surface.{SurfaceResponds}
+use Rattle.sc_app.specs.Shape.{ShapeResponds}
+use Rattle.sc_app.specs.Svg.{SvgResponds}
 use Rattle.sc_app.specs.Check.{CheckResponds, CheckAccepts, IsCheckStatus}
 use Rattle.sc_app.specs.Scl.{SclResponds, SclAccepts, HasSeveralAnswers, IsSclStatus}
 
 -- what a command answers to an input that isn't over its limit: the status, and the text for `out`
 abbrev pub Responds : Command → List ℕ → Status → List ℕ → Type 0
 Responds Surface input status text = SurfaceResponds input status text
+Responds Shape input status text = ShapeResponds input status text
 Responds Check input status text = CheckResponds input status text
+Responds Svg input status text = SvgResponds input status text
 Responds (Scl pivots) input status text = SclResponds pivots input status text
 
 -- the same for any input, by what the command reads: one that reads nothing has the empty input
@@ -42,7 +47,9 @@ Answers words input status text = (c : Command) × IsForm c words × AnswersTo c
 -- the inputs that have one right answer: all but the balanced chains of `scl`
 abbrev pub IsDetermined : Command → List ℕ → Type 0
 IsDetermined Surface input = Unit {0}
+IsDetermined Shape input = Unit {0}
 IsDetermined Check input = Unit {0}
+IsDetermined Svg input = Unit {0}
 IsDetermined (Scl pivots) input = ¬ HasSeveralAnswers input
 
 -- the same for any input, by what the command reads
@@ -56,8 +63,10 @@ HasOneAnswer words input = (c : Command) → IsForm c words → DeterminedBy (re
 
 -- the command's format and limits allow the input
 abbrev pub Allows : Command → List ℕ → Type 0
-Allows Surface input = SurfaceAccepts input
+Allows Surface input = SaysSurface input
+Allows Shape input = SaysSurface input
 Allows Check input = CheckAccepts input
+Allows Svg input = SaysSurface input
 Allows (Scl pivots) input = SclAccepts input
 
 -- the same for any input, by what the command reads
@@ -70,8 +79,10 @@ IsAccepted c input = AllowsBy (reads c) c input
 
 -- what a command may answer to an input that it accepts, besides for want of memory
 abbrev pub IsOwnStatus : Command → List ℕ → Status → Type 0
-IsOwnStatus Surface input status = IsSurfaceStatus status
+IsOwnStatus Surface input status = IsStatusOfSides status
+IsOwnStatus Shape input status = IsStatusOfSides status
 IsOwnStatus Check input status = IsCheckStatus status
+IsOwnStatus Svg input status = IsStatusOfSides status
 IsOwnStatus (Scl pivots) input status = IsSclStatus input status
 
 -- an answer of the command's own to the input came, and `out` took its text

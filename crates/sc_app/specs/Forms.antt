@@ -8,7 +8,7 @@ use Rattle.sc_line.specs.Lines.{number_of, natural}
 use Rattle.sc_line.specs.Faults.{between}
 use Rattle.sc_text.specs.declared.limits.TheConstants.{MAX_PIVOTS}
 use Rattle.sc_app.specs.declared.command.Command.{Command}
-use Rattle.sc_app.specs.declared.command.Command.TheVariants.{Surface, Check, Scl}
+use Rattle.sc_app.specs.declared.command.Command.TheVariants.{Surface, Shape, Check, Svg, Scl}
 use Rattle.sc_app.specs.declared.limits.TheConstants.{DEFAULT_PIVOTS}
 
 -- the words as bytes
@@ -19,7 +19,9 @@ bytes_of words = map string_bytes words
 abbrev pub named : List ℕ → Option Command
 named word =
     if bytes_eq word (codes "surface") then Some Surface
+    else if bytes_eq word (codes "shape") then Some Shape
     else if bytes_eq word (codes "check") then Some Check
+    else if bytes_eq word (codes "svg") then Some Svg
     else if bytes_eq word (codes "scl") then Some (Scl DEFAULT_PIVOTS)
     else None
 
@@ -62,5 +64,7 @@ AreWordsOfScl n words =
 -- the number of pivots is one that the words can name
 abbrev pub IsInRange : Command → Type 0
 IsInRange Surface = Unit {0}
+IsInRange Shape = Unit {0}
 IsInRange Check = Unit {0}
+IsInRange Svg = Unit {0}
 IsInRange (Scl n) = (1 ≤ n) × (n ≤ MAX_PIVOTS)

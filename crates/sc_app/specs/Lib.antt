@@ -7,6 +7,8 @@ pub mod Answer
 pub mod Reading
 pub mod Said
 pub mod Surface
+pub mod Shape
+pub mod Svg
 pub mod Check
 pub mod Scl
 pub mod Answers

@@ -16,7 +16,7 @@ use Rattle.sc_app.specs.declared.said.Heading.TheVariants.{CertificateText, Surf
 use Rattle.sc_app.specs.declared.said.Said.{Said}
 use Rattle.sc_app.specs.declared.said.Said.TheVariants.{Surface, Refused}
 use Rattle.sc_app.specs.declared.status.Status.{Status}
-use Rattle.sc_app.specs.declared.status.Status.TheVariants.{Malformed, Rejected}
+use Rattle.sc_app.specs.declared.status.Status.TheVariants.{Done, Malformed, Rejected}
 
 -- the input is the text of the certificate
 pub record IsCertificateText (input : List ℕ) (v : Certificate) : Type 0 where
@@ -63,6 +63,23 @@ Refuses input (Malformed at kind) text = IsFirstFault (plan_for input) input at 
 Refuses input (Rejected (Flaw kind place)) text =
     (c : Chain) × (n : ℕ) × (g : Sides) × Says input c n g × IsFirstFlaw c n g kind place × (text ≡ rejection (Flaw kind place))
 Refuses input _ text = ⊥
+
+-- what a command answers that tells of the labelled fatgraph which its input says: `Tells` is what it may write of a chain,
+-- a number of copies and sides
+abbrev pub RespondsBySides : (Chain → ℕ → Sides → List ℕ → Type 0) → List ℕ → Status → List ℕ → Type 0
+RespondsBySides Tells input Done text =
+    (c : Chain) × (n : ℕ) × (g : Sides) × Says input c n g × IsFatgraph c n g × Tells c n g text
+RespondsBySides Tells input status text = Refuses input status text
+
+-- the input says a surface
+abbrev pub SaysSurface : List ℕ → Type 0
+SaysSurface input = (c : Chain) × (n : ℕ) × (g : Sides) × Says input c n g
+
+-- what such a command may answer to an input that says a surface
+abbrev pub IsStatusOfSides : Status → Type 0
+IsStatusOfSides Done = Unit {0}
+IsStatusOfSides (Rejected (Flaw kind place)) = Unit {0}
+IsStatusOfSides _ = ⊥
 
 -- what was found in an input: the labelled fatgraph that it says, or why it says none
 abbrev pub IsSaid : List ℕ → Said → Type 0

@@ -2,14 +2,12 @@
 use Rattle.std.specs.Prelude.{◌≡◌, ◌*◌, ℕ, List, ◌++◌, codes, ℤ, pos, ◌-ℤ◌}
 use Rattle.sc_whole.specs.Spelling.{spelling}
 use Rattle.sc_theory.specs.Chains.{Chain}
-use Rattle.sc_theory.specs.Fatgraphs.{Sides, IsFatgraph, vertices, edges, cost}
+use Rattle.sc_theory.specs.Fatgraphs.{Sides, vertices, edges, cost}
 use Rattle.sc_fraction.specs.declared.frac.Frac.{Frac}
 use Rattle.sc_fraction.specs.Frac.{IsQuotient, frac_text}
-use Rattle.sc_prices.specs.declared.verdict.Condition.TheVariants.{Flaw}
 use Rattle.sc_app.specs.Notes.{line}
-use Rattle.sc_app.specs.Said.{Says, Refuses}
+use Rattle.sc_app.specs.Said.{RespondsBySides}
 use Rattle.sc_app.specs.declared.status.Status.{Status}
-use Rattle.sc_app.specs.declared.status.Status.TheVariants.{Done, Rejected}
 
 -- vertices minus edges
 abbrev pub euler : Sides → ℤ
@@ -27,20 +25,10 @@ report g f =
     ++ line (codes "euler " ++ spelling (euler g))
     ++ line (fraction_label ++ frac_text f)
 
--- what `surface` answers to an input: why it says no labelled fatgraph, or the surface's counts with the fraction of its cost
--- over twice the copies
+-- the text is the report of the sides with the fraction of their cost over twice the copies
+abbrev pub IsReport : Chain → ℕ → Sides → List ℕ → Type 0
+IsReport c n g text = (f : Frac) × IsQuotient (cost g) (pos (2 * n)) f × (text ≡ report g f)
+
+-- what `surface` answers to an input
 abbrev pub SurfaceResponds : List ℕ → Status → List ℕ → Type 0
-SurfaceResponds input Done text =
-    (c : Chain) × (n : ℕ) × (g : Sides) × (f : Frac) × Says input c n g × IsFatgraph c n g
-    × IsQuotient (cost g) (pos (2 * n)) f × (text ≡ report g f)
-SurfaceResponds input status text = Refuses input status text
-
--- the input says a surface
-abbrev pub SurfaceAccepts : List ℕ → Type 0
-SurfaceAccepts input = (c : Chain) × (n : ℕ) × (g : Sides) × Says input c n g
-
--- what `surface` may answer to an input that it accepts
-abbrev pub IsSurfaceStatus : Status → Type 0
-IsSurfaceStatus Done = Unit {0}
-IsSurfaceStatus (Rejected (Flaw kind place)) = Unit {0}
-IsSurfaceStatus _ = ⊥
+SurfaceResponds input status text = RespondsBySides IsReport input status text

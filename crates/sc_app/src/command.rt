@@ -13,8 +13,12 @@ use sc_text::{in_range, number_of};
 pub enum Command {
     /// `surface`: reads a surface, or that of a certificate, and writes its counts.
     Surface,
+    /// `shape`: reads a surface, or that of a certificate, and writes its components and their boundaries.
+    Shape,
     /// `check`: reads a certificate and writes its value where the surface is least.
     Check,
+    /// `svg`: reads a surface, or that of a certificate, and draws it.
+    Svg,
     /// `scl`: reads a chain and writes its stable commutator length.
     Scl {
         /// The pivots that may be made, at least 1.
@@ -38,7 +42,9 @@ impl Command {
         ensures readable { IsReadable result }
     {
         match self {
-            Command::Surface | Command::Check => Reading::AtMost(MAX_TEXT_BYTES),
+            Command::Surface | Command::Shape | Command::Check | Command::Svg => {
+                Reading::AtMost(MAX_TEXT_BYTES)
+            }
             Command::Scl { .. } => Reading::AtMost(MAX_CHAIN_BYTES),
         }
     }
@@ -51,7 +57,9 @@ fn command_named(word: &str) -> Option<Command>
 {
     match word {
         "surface" => Some(Command::Surface),
+        "shape" => Some(Command::Shape),
         "check" => Some(Command::Check),
+        "svg" => Some(Command::Svg),
         "scl" => Some(Command::Scl {
             pivots: DEFAULT_PIVOTS,
         }),

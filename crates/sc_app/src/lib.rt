@@ -13,8 +13,10 @@ mod program;
 mod rejection;
 mod said;
 mod scl;
+mod shape;
 mod status;
 mod surface;
+mod svg;
 
 pub use arguments::words_of_program;
 pub use command::{Command, Reading, command_of};

@@ -81,6 +81,11 @@ fn bears_a_million_sides(rt: HostRuntime) -> Result<(), Fail> {
         b"vertices 2000\nedges 2000\neuler 0\nfraction 0/1\n".as_slice()
     );
 
+    for word in ["shape", "svg"] {
+        let small = surface_of_annuli(rt.alloc(), 2, 1000)?;
+        assert_eq!(rt; answer(rt.alloc(), word, small)?.0, Status::Done, "{word}");
+    }
+
     let great = certificate_of_annuli(rt.alloc(), 500, 1000)?;
     let (status, out) = answer(rt.alloc(), "check", great)?;
     assert_eq!(rt; status, Status::Done);

@@ -51,7 +51,9 @@ fn note_of_status(status: &Status) -> Note
 {
     match status {
         Status::Done => plain(b""),
-        Status::Usage => plain(b"scallop: usage: surface | check | scl [--pivots N]\n"),
+        Status::Usage => plain(
+            b"scallop: usage: surface | shape | check | svg | scl [--pivots N]\n",
+        ),
         Status::Malformed { line, kind } => Note {
             before: b"scallop: malformed line ",
             number: Some(*line),

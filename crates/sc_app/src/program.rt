@@ -22,8 +22,10 @@ use crate::check::answer_check;
 use crate::command::{Command, Reading, command_of};
 use crate::note::write_note;
 use crate::scl::answer_scl;
+use crate::shape::answer_shape;
 use crate::status::{Status, What};
 use crate::surface::answer_surface;
+use crate::svg::answer_svg;
 use sc_outside::{ReadAll, Sink, Source, read_all, write_all};
 use std::alloc::{AllocError, Global};
 
@@ -35,7 +37,9 @@ fn respond(alloc: Global, command: Command, input: &[u8]) -> Result<Answer, Allo
 {
     match command {
         Command::Surface => answer_surface(alloc, input),
+        Command::Shape => answer_shape(alloc, input),
         Command::Check => answer_check(alloc, input),
+        Command::Svg => answer_svg(alloc, input),
         Command::Scl { pivots } => answer_scl(alloc, pivots, input),
     }
 }

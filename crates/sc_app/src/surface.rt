@@ -1,12 +1,10 @@
 //! The command `surface`.
 
-ghost use Rattle.std.specs.Prelude.{◌≡◌, ◌*◌, ◌++◌, pos, IfOk, OnOk};
-ghost use Rattle.sc_theory.specs.Fatgraphs.{cost};
-ghost use Rattle.sc_fraction.specs.declared.frac.Frac.{Frac as Fraction};
-ghost use Rattle.sc_fraction.specs.Frac.{IsQuotient, frac_text};
+ghost use Rattle.std.specs.Prelude.{◌≡◌, ◌++◌, IfOk, OnOk};
+ghost use Rattle.sc_fraction.specs.Frac.{frac_text};
 ghost use Rattle.sc_app.specs.Notes.{line};
 ghost use Rattle.sc_app.specs.Answer.{status_of, text_of};
-ghost use Rattle.sc_app.specs.Surface.{SurfaceResponds, fraction_label, report};
+ghost use Rattle.sc_app.specs.Surface.{SurfaceResponds, IsReport, fraction_label};
 
 use crate::answer::Answer;
 use crate::printing::append_number_line;
@@ -26,8 +24,7 @@ fn append_fraction_line(out: &mut Vec<u8>, fraction: &Frac) -> Result<(), AllocE
 
 /// The four lines of a surface.
 fn report_text(alloc: Global, fatgraph: &Fatgraph) -> Result<Vec<u8>, AllocError>
-    ensures { IfOk result (λ text. (f : Fraction) × IsQuotient (cost fatgraph.now.sides) (pos (2 * fatgraph.now.copies)) f
-        × (text.items ≡ report fatgraph.now.sides f)) }
+    ensures { IfOk result (λ text. IsReport fatgraph.now.chain fatgraph.now.copies fatgraph.now.sides text.items) }
 {
     let counts = fatgraph.counts(alloc)?;
     let fraction = fraction(&counts, fatgraph.copies());

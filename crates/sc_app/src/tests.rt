@@ -46,6 +46,13 @@ const SLACK: &[u8] =
 const MISVALUED: &[u8] =
     b"scallop certificate 1\nwords 1\nword 1 abAB\nvalue 1/2\ncopies 2\nsides 8\nside 0 2 1\nside 1 3 2\nside 2 0 3\nside 3 1 4\nside 0 6 5\nside 1 7 6\nside 2 4 7\nside 3 5 0\nscale 1\nbase 1\npair 0 2 -5\npair 1 3 -5\nfrom 0 0 -5 -10 -5\nfrom 1 6 0 -4 1\nfrom 2 11 5 0 6\nfrom 3 6 0 -5 0\npivots 1\npivot 2 0 3 2 1\nend\n";
 
+const DRAWING: &str = "<svg xmlns=\"http://www.w3.org/2000/svg\" viewBox=\"0 0 80 74\">\n\
+    <line x1=\"20\" y1=\"50\" x2=\"40\" y2=\"50\" stroke=\"black\" stroke-width=\"4\"/>\n\
+    <path d=\"M 20 50 A 10 10 0 0 1 40 50\" fill=\"none\" stroke=\"black\"/>\n\
+    <text x=\"20\" y=\"66\" font-size=\"12\">a</text>\n\
+    <text x=\"40\" y=\"66\" font-size=\"12\">A</text>\n\
+    </svg>\n";
+
 /// How the streams of a call behave: bytes a reading call, reading calls that fail, bytes a writing call, writing calls
 /// that fail.
 #[derive(Clone, Copy)]
@@ -177,6 +184,36 @@ fn answers_what_the_commands_say(rt: HostRuntime) -> Result<(), Fail> {
             "scallop: rejected\n",
         ),
         (
+            "shape",
+            DOUBLE,
+            Status::Done,
+            "component 0 sides 8 vertices 1 edges 4 euler -3 boundaries 1\nboundary 0 2\n",
+            "",
+        ),
+        (
+            "shape",
+            ANNULUS_CERTIFICATE,
+            Status::Done,
+            "component 0 sides 2 vertices 1 edges 1 euler 0 boundaries 2\nboundary 0 1\nboundary 1 1\n",
+            "",
+        ),
+        ("shape", EMPTY_CERTIFICATE, Status::Done, "", ""),
+        (
+            "shape",
+            LOOSE_CERTIFICATE,
+            rejected,
+            "rejected mate 0\n",
+            "scallop: rejected\n",
+        ),
+        ("svg", ANNULUS_CERTIFICATE, Status::Done, DRAWING, ""),
+        (
+            "svg",
+            b"scallop fan 1\n".as_slice(),
+            form,
+            "",
+            "scallop: malformed line 1 form\n",
+        ),
+        (
             "surface",
             b"".as_slice(),
             ended,
@@ -203,14 +240,14 @@ fn answers_what_the_commands_say(rt: HostRuntime) -> Result<(), Fail> {
             b"".as_slice(),
             Status::Usage,
             "",
-            "scallop: usage: surface | check | scl [--pivots N]\n",
+            "scallop: usage: surface | shape | check | svg | scl [--pivots N]\n",
         ),
         (
             "x",
             b"".as_slice(),
             Status::Usage,
             "",
-            "scallop: usage: surface | check | scl [--pivots N]\n",
+            "scallop: usage: surface | shape | check | svg | scl [--pivots N]\n",
         ),
     ];
     for (word, input, status, out, notes) in cases {
@@ -344,6 +381,8 @@ fn knows_its_forms_and_codes(rt: HostRuntime) -> Result<(), Fail> {
     let cases = [
         ("", None),
         ("surface", Some(Command::Surface)),
+        ("shape", Some(Command::Shape)),
+        ("svg", Some(Command::Svg)),
         ("check", Some(Command::Check)),
         ("scl", Some(Command::Scl { pivots: 20_000 })),
         ("scl --pivots 1", Some(Command::Scl { pivots: 1 })),
@@ -397,7 +436,7 @@ fn code(
 
 #[test]
 fn ends_with_the_code_of_the_status(rt: HostRuntime) -> Result<(), Fail> {
-    let usage = b"scallop: usage: surface | check | scl [--pivots N]\n".as_slice();
+    let usage = b"scallop: usage: surface | shape | check | svg | scl [--pivots N]\n".as_slice();
     let report = b"vertices 1\nedges 2\neuler -1\nfraction 1/2\n".as_slice();
     let (ended, written, noted) = code(rt.alloc(), None, COMMUTATOR)?;
     assert_eq!(rt; ended, 10);

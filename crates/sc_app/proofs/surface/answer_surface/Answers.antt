@@ -1,12 +1,13 @@
 use Rattle.std.proofs.Common.{subst}
 use Rattle.sc_app.specs.Said.{IsSaid}
+use Rattle.sc_app.specs.Surface.{IsReport}
 use Rattle.sc_app.specs.Answer.{status_of, text_of}
-use Rattle.sc_app.proofs.Reports.{reported, refused}
+use Rattle.sc_app.proofs.Reports.{told, refused}
 use Rattle.sc_app.proofs.surface.answer_surface.Goals as goal
 
 pub returns-in_ok-report_text-in-Surface : goal.returns-in_ok-report_text-in-Surface
 returns-in_ok-report_text-in-Surface c =
-    reported c.args.input.now c.in-Surface.fatgraph c.in_ok-report_text-in-Surface.field-0.items (subst (IsSaid c.args.input.now) c.in-Surface.is c.in_ok-fatgraph.ensures) c.in_ok-report_text-in-Surface.ensures
+    told IsReport c.args.input.now c.in-Surface.fatgraph c.in_ok-report_text-in-Surface.field-0.items (subst (IsSaid c.args.input.now) c.in-Surface.is c.in_ok-fatgraph.ensures) c.in_ok-report_text-in-Surface.ensures
 
 pub returns-in-Refused : goal.returns-in-Refused
-returns-in-Refused c = refused c.args.input.now (text_of c.in-Refused.answer) (status_of c.in-Refused.answer) (subst (IsSaid c.args.input.now) c.in-Refused.is c.in_ok-fatgraph.ensures)
+returns-in-Refused c = refused IsReport c.args.input.now (text_of c.in-Refused.answer) (status_of c.in-Refused.answer) (subst (IsSaid c.args.input.now) c.in-Refused.is c.in_ok-fatgraph.ensures)
