@@ -1,3 +1,5 @@
 pub mod Orbits
 pub mod LayingOut
 pub mod Drawn
+pub mod Greatest
+pub mod Fans

@@ -1,12 +1,21 @@
-//! Drawings of labelled fatgraphs as SVG.
+//! Drawings of labelled fatgraphs and of fans as SVG.
 #![tactic(auto)]
 
 mod drawing;
+mod extent;
+mod fan;
 mod layout;
+pub mod limits;
 mod lines;
 mod pieces;
+mod point;
+mod spot;
 
 pub use drawing::draw;
+pub use fan::draw_fan;
+pub use spot::Spot;
 
+#[cfg(test)]
+mod fan_tests;
 #[cfg(test)]
 mod tests;

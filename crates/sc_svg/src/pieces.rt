@@ -14,6 +14,8 @@ pub(crate) enum Piece<'a> {
     Text(&'a [u8]),
     /// A number in its one spelling.
     Number(u32),
+    /// A number that may be below 0, in its one spelling.
+    Signed(i128),
 }
 
 /// Appends a piece.
@@ -23,6 +25,7 @@ fn print_piece(piece: Piece, out: &mut Vec<u8>) -> Result<(), AllocError>
     match piece {
         Piece::Text(text) => out.extend_from_slice(text),
         Piece::Number(number) => print_decimal(i128::from(number), out),
+        Piece::Signed(number) => print_decimal(number, out),
     }
 }
 
