@@ -1,5 +1,6 @@
 -- The entries of a search, in order.
-use Rattle.std.proofs.Common.{◌≡◌, ℕ, zero, suc, ◌<◌, List, [], ◌∷◌, ◌++◌, length, arith, refl, sym, ap, subst, ◌∙◌}
+use Rattle.std.proofs.Common.{◌≡◌, ℕ, zero, suc, ◌<◌, List, [], ◌∷◌, ◌++◌, length, take, drop, arith, refl, sym, ap, subst, ◌∙◌}
+use Rattle.std.specs.List.{insert}
 use Rattle.std.specs.Int.{IsGcd}
 use Rattle.std.proofs.lemmas.Int.{ints}
 use Rattle.std.proofs.lemmas.Nat.Gcd.{dvd-zero, dvd_refl}
@@ -8,7 +9,7 @@ use Rattle.sc_cone.specs.declared.Direction.{Direction}
 use Rattle.sc_cone.specs.declared.Quadrant.{Quadrant}
 use Rattle.sc_cone.specs.declared.Quadrant.TheVariants.{Lower, Upper}
 use Rattle.sc_cone.specs.Directions.{first_end, last_end, IsIn, IsPrimitive, TurnsLeft}
-use Rattle.sc_cone.specs.Searches.{Reached, reached, IsReached, IsSearch, begun, grown, IsRow}
+use Rattle.sc_cone.specs.Searches.{Reached, reached, IsReached, IsOpen, IsGap, IsNext, IsSearch, begun, grown, IsRow}
 use Rattle.sc_cone.proofs.NextDirections.{next_between}
 
 -- the ends of a quadrant
@@ -141,3 +142,31 @@ module _ (q : Quadrant) (first second : Chain) where
 
   pub search_is_row : IsChain first → IsChain second → (rs : List Reached) → IsSearch q first second rs → IsRow q first second rs
   search_is_row is_first is_second rs search = from_entries rs (entries is_first is_second rs search)
+
+pub gap_in : (q : Quadrant) (first second : Chain) (rs : List Reached) (i : ℕ) → IsRow q first second rs → suc i < length rs → IsOpen q first second (reached rs i) (reached rs (suc i)) → IsGap q first second (reached rs i) (reached rs (suc i))
+gap_in q first second rs i row inside opened = record {
+  here = row.tight i (omega arith);
+  there = row.tight (suc i) inside;
+  here_within = row.within i (omega arith);
+  there_within = row.within (suc i) inside;
+  left = row.left i inside;
+  opened = opened;
+}
+
+-- what is put in between the entries i and i + 1
+parted : (rs : List Reached) (i : ℕ) → suc i < length rs → rs ≡ take i rs ++ reached rs i ∷ reached rs (suc i) ∷ drop (suc (suc i)) rs
+parted [] i inside = absurd (omega arith)
+parted (r ∷ []) i inside = absurd (omega arith)
+parted (r ∷ u ∷ rs) zero inside = refl
+parted (r ∷ u ∷ rs) (suc i) inside = ap (λ (rest : List Reached). r ∷ rest) (parted (u ∷ rs) i (omega arith))
+
+put_in : (rs : List Reached) (i : ℕ) (x : Reached) → suc i < length rs → insert rs (suc i) x ≡ take i rs ++ reached rs i ∷ x ∷ reached rs (suc i) ∷ drop (suc (suc i)) rs
+put_in [] i x inside = absurd (omega arith)
+put_in (r ∷ []) i x inside = absurd (omega arith)
+put_in (r ∷ u ∷ rs) zero x inside = refl
+put_in (r ∷ u ∷ rs) (suc i) x inside = ap (λ (rest : List Reached). r ∷ rest) (put_in (u ∷ rs) i x (omega arith))
+
+pub grown_at : (q : Quadrant) (first second : Chain) (rs : List Reached) (i : ℕ) (x : Reached) → IsSearch q first second rs → suc i < length rs → IsOpen q first second (reached rs i) (reached rs (suc i)) → IsNext q first second (reached rs i) (reached rs (suc i)) x.direction → IsReached q first second x → IsSearch q first second (insert rs (suc i) x)
+grown_at q first second rs i x search inside opened next got =
+    subst (IsSearch q first second) (sym (put_in rs i x inside))
+    (grown (take i rs) (reached rs i) x (reached rs (suc i)) (drop (suc (suc i)) rs) (subst (IsSearch q first second) (parted rs i inside) search) opened next got)

@@ -23,6 +23,15 @@ pub record IsOpen (q : Quadrant) (first second : Chain) (r u : Reached) : Type 0
   pub beyond : IsTightAt q first second r.list u.direction → ⊥
   pub back : IsTightAt q first second u.list r.direction → ⊥
 
+-- two such neighbours of a quadrant, the second to the left of the first
+pub record IsGap (q : Quadrant) (first second : Chain) (r u : Reached) : Type 0 where
+  pub here : IsReached q first second r
+  pub there : IsReached q first second u
+  pub here_within : IsIn q r.direction
+  pub there_within : IsIn q u.direction
+  pub left : TurnsLeft r.direction u.direction
+  pub opened : IsOpen q first second r u
+
 -- a direction that is no end of its quadrant
 pub record IsInside (d : Direction) : Type 0 where
   pub first : d.s ≢ pos 0

@@ -3,4 +3,8 @@ use Rattle.sc_cone.proofs.ShortRows.{coordinates}
 use Rattle.sc_cone.proofs.searches.open_neighbours_have_length.Goals as goal
 
 pub returns : goal.returns
-returns c = record { first = first_has_length; second = second_has_length; coordinates = coordinates }
+returns c = record {
+  first = λ q first second r u is_first is_second gap. first_has_length q first second r u is_first is_second gap.here gap.there gap.here_within gap.there_within gap.left gap.opened;
+  second = λ q first second r u is_first is_second gap. second_has_length q first second r u is_first is_second gap.here gap.there gap.here_within gap.there_within gap.left gap.opened;
+  coordinates = coordinates;
+}
