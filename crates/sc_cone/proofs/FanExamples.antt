@@ -1,5 +1,5 @@
 -- The examples are fans.
-use Rattle.std.proofs.Common.{◌≡◌, ◌≢◌, ℕ, zero, suc, ◌*◌, ◌<◌, [], ◌∷◌, ◌++◌, length, get_or, ℤ, pos, ◌*ℤ◌, ◌<ℤ◌, arith, refl, sym, ap, subst, rules}
+use Rattle.std.proofs.Common.{◌≡◌, ◌≢◌, ℕ, zero, suc, ◌<◌, [], ◌∷◌, get_or, ℤ, pos, ◌*ℤ◌, ◌<ℤ◌, arith, refl, ap, rules}
 use Rattle.sc_theory.specs.Words.{IsReduced}
 use Rattle.sc_theory.specs.Chains.{Chain, IsChain, word}
 use Rattle.sc_theory.specs.Fatgraphs.{Sides, IsFatgraph}
@@ -13,8 +13,8 @@ use Rattle.sc_cone.specs.declared.Quadrant.{Quadrant}
 use Rattle.sc_cone.specs.declared.Quadrant.TheVariants.{Lower, Upper}
 use Rattle.sc_cone.specs.Directions.{down, right, up, first_end, last_end, IsIn, IsPrimitive}
 use Rattle.sc_cone.specs.Cones.{chain_of, quadrant_chain}
-use Rattle.sc_cone.specs.Values.{IsValueOf, IsTightAt, list_num, list_den}
-use Rattle.sc_cone.specs.Fans.{Corner, no_corner, IsFan, IsGoodCorner, IsArc, IsHalf}
+use Rattle.sc_cone.specs.Values.{IsTightAt, list_num, list_den}
+use Rattle.sc_cone.specs.Fans.{Corner, no_corner, IsFan, IsGoodCorner, IsHalf}
 use Rattle.sc_cone.specs.Examples.{second_annulus, second_annulus_below, upper_list, lower_list, upper_tables, lower_tables, flat_fan, four_corners, other_commutator, other_torus, commutators_list, commutators_tables, commutators_fan}
 use Rattle.sc_cone.proofs.ConeWords.{is_chain}
 use Rattle.sc_cone.proofs.ConeChains.{covers_all}

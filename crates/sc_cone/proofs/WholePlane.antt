@@ -1,13 +1,12 @@
 -- The cones of a fan's edges: each lies in its quadrant, values on it are those of the edge's list, and together they cover.
-use Rattle.std.proofs.Common.{◌≡◌, ◌⊎◌, ℕ, zero, suc, ◌+◌, ◌-◌, ◌<◌, ◌≤◌, length, ℤ, pos, ◌-ℤ◌, ◌*ℤ◌, ◌<ℤ◌, ◌≤ℤ◌, inl, inr, arith, refl, sym, ap, subst, ◌∙◌}
+use Rattle.std.proofs.Common.{◌≡◌, ◌⊎◌, ℕ, zero, suc, ◌+◌, ◌-◌, ◌<◌, ◌≤◌, length, ℤ, pos, ◌<ℤ◌, ◌≤ℤ◌, inl, inr, arith, sym, ap, subst, ◌∙◌}
 use Rattle.std.proofs.lemmas.Int.{ints}
 use Rattle.std.proofs.lemmas.Bool.{cases_lt}
-use Rattle.sc_theory.specs.Chains.{Chain, IsChain}
-use Rattle.sc_theory.specs.Prices.{Prices, Covers}
+use Rattle.sc_theory.specs.Chains.{IsChain}
 use Rattle.sc_cone.specs.declared.Direction.{Direction}
 use Rattle.sc_cone.specs.declared.Quadrant.{Quadrant}
 use Rattle.sc_cone.specs.declared.Quadrant.TheVariants.{Lower, Upper}
-use Rattle.sc_cone.specs.Directions.{down, right, up, IsIn, cross, TurnsLeft, IsBetween}
+use Rattle.sc_cone.specs.Directions.{down, right, up, IsIn, cross, IsBetween}
 use Rattle.sc_cone.specs.Values.{IsTightAt}
 use Rattle.sc_cone.specs.Fans.{Corner, Fan, edge, turn_to, quadrant_from, quadrant_of, IsFan}
 use Rattle.sc_cone.proofs.Turning.{not_negative, cases_sign, turned}
