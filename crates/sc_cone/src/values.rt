@@ -4,9 +4,10 @@ ghost use Rattle.std.specs.Prelude.{◌≡◌, ℕ, ℤ, pos, ◌*◌, ◌*ℤ�
 ghost use Rattle.sc_theory.specs.Chains.{Chain, IsChain};
 ghost use Rattle.sc_theory.specs.Fatgraphs.{Sides, cost, IsFatgraph, IsLeast};
 ghost use Rattle.sc_theory.specs.Prices.{Prices, Covers, IsTight};
+ghost use Rattle.sc_cone.specs.declared.Direction.{Direction};
 ghost use Rattle.sc_cone.specs.declared.Quadrant.{Quadrant};
 ghost use Rattle.sc_cone.specs.Directions.{right};
-ghost use Rattle.sc_cone.specs.Cones.{chain_of};
+ghost use Rattle.sc_cone.specs.Cones.{chain_of, quadrant_chain};
 ghost use Rattle.sc_cone.specs.Values.{IsValueOf, list_num, list_den};
 
 /// A chain has one value: the fractions that are its value are those of one number. A least labelled fatgraph gives it.
@@ -16,9 +17,11 @@ pub fn values_are_unique()
     ensures by_least { (c : Chain) (n : ℕ) (g : Sides) → IsFatgraph c n g → IsLeast c n g → IsValueOf c (cost g) (pos (2 * n)) }
 {}
 
-/// The value that a covering list gives a chain is at most the chain's value.
+/// The value that a covering list gives a chain is at most the chain's value. So a list that covers a quadrant's chain bounds
+/// the value of each of its directions.
 pub fn covering_lists_bound_the_value()
-    ensures { (c : Chain) (list : Prices) (num den : ℤ) → IsChain c → Covers c list → IsValueOf c num den → (list_num c list *ℤ den) ≤ℤ (num *ℤ list_den list) }
+    ensures chains { (c : Chain) (list : Prices) (num den : ℤ) → IsChain c → Covers c list → IsValueOf c num den → (list_num c list *ℤ den) ≤ℤ (num *ℤ list_den list) }
+    ensures directions { (q : Quadrant) (first second : Chain) (list : Prices) (d : Direction) (num den : ℤ) → IsChain first → IsChain second → Covers (quadrant_chain q first second) list → IsValueOf (chain_of q first second d) num den → (list_num (chain_of q first second d) list *ℤ den) ≤ℤ (num *ℤ list_den list) }
 {}
 
 /// A list is tight for a labelled fatgraph exactly where its value is the fatgraph's fraction. So the value of a covering
