@@ -1,11 +1,8 @@
 -- What the oracle over polygons keeps.
 use Rattle.std.specs.Prelude.{◌≡◌}
-use Rattle.std.specs.List.{AllByRecursion}
-use Rattle.sc_theory.specs.Walks.{IsPolygon}
 use Rattle.sc_theory.specs.Prices.{pairs}
 use Rattle.sc_solve.specs.declared.searching.PolygonOracle.TheInside.{Inside}
 
--- the pairs are those of the chain, and polygons of it are tried
+-- the pairs are those of the chain
 pub record IsPolygonOracle (o : Inside) : Type 0 where
   pub pairs_are : o.pairs ≡ pairs o.chain
-  pub tried : AllByRecursion (IsPolygon o.chain) o.tried.items

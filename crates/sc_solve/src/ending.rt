@@ -15,6 +15,8 @@ use crate::columns::right_side_of;
 use crate::journals::{polygon_journal, polygon_of};
 use crate::searching::PolygonOracle;
 use crate::solution::SolveFault;
+use sc_advice::Mode;
+use sc_candidates::Candidates;
 use sc_chain::{Chain, Pairs, Pivot};
 use sc_fraction::Frac;
 use sc_rows::PriceRows;
@@ -41,13 +43,25 @@ pub(crate) fn check_chain(chain: &Chain)
     let _words = chain.words();
 }
 
-/// The oracle over the polygons of a chain, with no polygon that it tries first.
-fn oracle_of(alloc: Global, chain: &Chain) -> Result<PolygonOracle, AllocError>
+/// The candidates that advice of this mode gives. There are none without a mode, and where there is no memory for it.
+fn candidates_of(alloc: Global, chain: &Chain, mode: Option<Mode>) -> Candidates {
+    let Some(mode) = mode else {
+        return Candidates::none(alloc);
+    };
+    match Candidates::of(alloc, chain, mode) {
+        Ok(candidates) => candidates,
+        Err(_) => Candidates::none(alloc),
+    }
+}
+
+/// The oracle over the polygons of a chain, which tries the candidates of this mode first.
+fn oracle_of(alloc: Global, chain: &Chain, mode: Option<Mode>) -> Result<PolygonOracle, AllocError>
     ensures { IfOk result (λ oracle. oracle ≡ chain.now) }
 {
     let pairs = Pairs::of(alloc, chain)?;
     let own = chain.copy(alloc)?;
-    Ok(PolygonOracle::new(own, pairs, Vec::new(alloc)))
+    let candidates = candidates_of(alloc, chain, mode);
+    Ok(PolygonOracle::new(own, pairs, candidates))
 }
 
 /// The right side of a chain.
@@ -60,7 +74,12 @@ fn side_of(alloc: Global, chain: &Chain) -> Result<Vec<i128>, AllocError>
 }
 
 /// What the simplex answers over the polygons of a chain.
-fn optimal_basis(alloc: Global, chain: &Chain, budget: u32) -> Result<Optimum, SimplexFault>
+fn optimal_basis(
+    alloc: Global,
+    chain: &Chain,
+    mode: Option<Mode>,
+    budget: u32,
+) -> Result<Optimum, SimplexFault>
     requires balanced { IsBalanced chain.now }
     requires budget { 0 < budget }
     ensures optimum { IfOk result (IsOptimum (IsPolygonColumn chain.now) (rows chain.now) (right_side chain.now) budget) }
@@ -70,7 +89,7 @@ fn optimal_basis(alloc: Global, chain: &Chain, budget: u32) -> Result<Optimum, S
     let Ok(side) = side_of(alloc, chain) else {
         return Err(SimplexFault::Memory);
     };
-    let Ok(mut oracle) = oracle_of(alloc, chain) else {
+    let Ok(mut oracle) = oracle_of(alloc, chain, mode) else {
         return Err(SimplexFault::Memory);
     };
     solve(alloc, &side, &mut oracle, budget)
@@ -117,10 +136,11 @@ fn stop_of(alloc: Global, chain: &Chain, fault: SimplexFault) -> Result<SolveFau
     }
 }
 
-/// An optimal basis, by at most `budget` lawful pivots of polygons.
+/// An optimal basis, by at most `budget` lawful pivots of polygons, of which advice of this mode is tried first.
 pub(crate) fn optimal_ending(
     alloc: Global,
     chain: &Chain,
+    mode: Option<Mode>,
     budget: u32,
 ) -> Result<Ending, SolveFault>
     requires balanced { IsBalanced chain.now }
@@ -128,7 +148,7 @@ pub(crate) fn optimal_ending(
     ensures ending { IfOk result (IsEnding chain.now budget) }
     ensures stopped { IfErr result (IsStopped chain.now budget) }
 {
-    match optimal_basis(alloc, chain, budget) {
+    match optimal_basis(alloc, chain, mode, budget) {
         Ok(optimum) => {
             let found = polygon_ending(alloc, chain, optimum)?;
             Ok(found)

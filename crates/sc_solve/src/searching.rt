@@ -20,20 +20,21 @@ ghost use Rattle.sc_solve.specs.Searches.{IsWideSearch, MatchCheap, refusal_of_t
 
 use crate::columns::column_of;
 use crate::levels::step_prices;
+use sc_candidates::Candidates;
 use sc_chain::{Chain, Pairs, Polygon};
 use sc_rows::{Place, PriceRows, RowFault, WideAt};
 use sc_simplex::{Answer, Oracle, OracleFault};
 use sc_tables::{Found, StepPrices, TableFault, cheap_polygon, cheap_polygon_down, first_cheap};
 use sc_weight::Pair;
-use std::alloc::Global;
+use std::alloc::{AllocError, Global};
 use std::marker::Model;
 
-/// What finds the polygons of a chain that improve a basis. It holds polygons that it tries before it searches.
+/// What finds the polygons of a chain that improve a basis. It holds candidates, of which it tries one before it searches.
 #[derive(Drop)]
 pub struct PolygonOracle {
     chain: Chain,
     pairs: Pairs,
-    tried: Vec<Polygon>,
+    candidates: Candidates,
 }
 
 impl Model for PolygonOracle {
@@ -47,6 +48,37 @@ impl Model for PolygonOracle {
     ghost view = { λ o. o.chain };
 
     ghost invariant = { IsPolygonOracle };
+}
+
+/// The candidate that is to be tried at these prices, or none.
+fn candidate_at(
+    alloc: Global,
+    chain: &Chain,
+    candidates: &mut Candidates,
+    prices: &PriceRows,
+) -> Result<Vec<Polygon>, AllocError>
+    ensures { IfOk result (λ tried. AllByRecursion (IsPolygon chain.now) tried.items) }
+{
+    let mut tried = Vec::new(alloc);
+    if let Some(polygon) = candidates.improving(alloc, chain, prices)? {
+        tried.push(polygon)?;
+    }
+    Ok(tried)
+}
+
+/// The candidate that is to be tried at these prices, or none, also where there is no memory for it.
+fn tried_at(
+    alloc: Global,
+    chain: &Chain,
+    candidates: &mut Candidates,
+    prices: &PriceRows,
+) -> Vec<Polygon>
+    ensures { AllByRecursion (IsPolygon chain.now) result.items }
+{
+    match candidate_at(alloc, chain, candidates, prices) {
+        Ok(tried) => tried,
+        Err(_) => Vec::new(alloc),
+    }
 }
 
 /// The first of the known polygons that is below the threshold.
@@ -222,16 +254,15 @@ fn answer_at(
 }
 
 impl PolygonOracle {
-    /// The oracle over the polygons of a chain with its inverse pairs; these polygons are tried first.
-    pub fn new(chain: Chain, pairs: Pairs, tried: Vec<Polygon>) -> PolygonOracle
-        requires pairs { pairs ≡ pairs_of chain }
-        requires tried { AllByRecursion (IsPolygon chain) tried.items }
+    /// The oracle over the polygons of a chain with its inverse pairs; the candidates are tried first.
+    pub fn new(chain: Chain, pairs: Pairs, candidates: Candidates) -> PolygonOracle
+        requires { pairs ≡ pairs_of chain }
         ensures { result ≡ chain }
     {
         PolygonOracle {
             chain,
             pairs,
-            tried,
+            candidates,
         }
     }
 
@@ -265,8 +296,8 @@ impl Oracle for PolygonOracle {
     ghost shows = { λ o p w. IsWideSearch o p w };
 
     fn improving(&mut self, alloc: Global, prices: &PriceRows) -> Result<Answer, OracleFault> {
-        let tried = self.tried.as_slice();
-        answer_at(alloc, &self.chain, &self.pairs, tried, prices)
+        let tried = tried_at(alloc, &self.chain, &mut self.candidates, prices);
+        answer_at(alloc, &self.chain, &self.pairs, tried.as_slice(), prices)
     }
 
     ghost ascending = { λ o key c is. columns_ascend o key c is };

@@ -19,6 +19,8 @@ use crate::ending::{Ending, check_chain, optimal_ending};
 use crate::lifting::{LiftFault, lift};
 use crate::tabling::tables_of;
 use crate::{Solution, SolveFault};
+use sc_advice::Mode;
+use sc_candidates::tries;
 use sc_certificate::{PriceList, Tables};
 use sc_chain::{Chain, Pairs, Pivot};
 use sc_fatgraph::{Fatgraph, fraction};
@@ -133,6 +135,14 @@ fn solution_of(alloc: Global, chain: &Chain, ending: Ending) -> Result<Solution,
     }
 }
 
+/// The mode of advice that suits a chain best.
+fn first_mode(alloc: Global, chain: &Chain) -> Option<Mode> {
+    let pairs = Pairs::of(alloc, chain).ok()?;
+    let rows = pairs.count().saturating_add(chain.words());
+    let tries = tries(alloc, chain, rows).ok()?;
+    tries.first()?.mode
+}
+
 /// A surface over copies of a balanced chain whose cost for each copy is the least that any has, by at most `budget` pivots.
 pub fn extremal(alloc: Global, chain: &Chain, budget: u32) -> Result<Solution, SolveFault>
     requires balanced { IsBalanced chain.now }
@@ -157,7 +167,8 @@ pub fn extremal(alloc: Global, chain: &Chain, budget: u32) -> Result<Solution, S
     ensures stopped { IfErr result (IsStopped chain.now budget) }
 {
     check_chain(chain);
-    let ending = optimal_ending(alloc, chain, budget)?;
+    let mode = first_mode(alloc, chain);
+    let ending = optimal_ending(alloc, chain, mode, budget)?;
     let solution = solution_of(alloc, chain, ending)?;
     Ok(solution)
 }

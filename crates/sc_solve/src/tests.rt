@@ -8,6 +8,7 @@ ghost use Rattle.sc_chain.specs.declared.limits.TheConstants.{GENERATORS};
 ghost use Rattle.sc_rows.specs.Standing.{ArePrices};
 
 use super::*;
+use sc_candidates::Candidates;
 use sc_certificate::PriceList;
 use sc_chain::{Chain, Pairs, Word, letters_of};
 use sc_rows::{Place, PriceRow, PriceRows};
@@ -155,7 +156,7 @@ fn asked(alloc: Global, bulk: &[i128], fine: &[i128]) -> Result<Vec<u32>, Fail> 
     let chain = chain_of(alloc, b"abAB")?;
     let pairs = Pairs::of(alloc, &chain)?;
     let prices = prices_of(alloc, &chain, &pairs, bulk, fine)?;
-    let mut oracle = PolygonOracle::new(chain, pairs, Vec::new(alloc));
+    let mut oracle = PolygonOracle::new(chain, pairs, Candidates::none(alloc));
     match oracle.improving(alloc, &prices) {
         Ok(Answer::Improving(column)) => Ok(column.key),
         Ok(Answer::Optimal) => Ok(Vec::new(alloc)),
