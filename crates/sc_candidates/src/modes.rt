@@ -7,6 +7,9 @@ use std::alloc::{AllocError, Global};
 /// Up to so many rows a chain is tried without advice first.
 const FEW_ROWS: usize = 40;
 
+/// Up to so many letters a word is short.
+const SHORT_WORD: usize = 4;
+
 /// How many pivots of a basis of one row a try takes the time for.
 const PIVOTS_OF_ONE_ROW: u64 = 1 << 30;
 
@@ -45,13 +48,20 @@ fn is_power(word: &[Letter]) -> bool {
     is_rotation(word, word, 1)
 }
 
-/// Whether some word is a proper power, or is another one up to rotation.
-fn is_repeated(chain: &Chain) -> bool {
-    let entries = chain.entries();
-    for (place, (_, word)) in entries.iter().enumerate() {
+/// Whether some word is a proper power.
+fn has_powers(chain: &Chain) -> bool {
+    for (_, word) in chain.entries() {
         if is_power(word.as_slice()) {
             return true;
         }
+    }
+    false
+}
+
+/// Whether some word is another one up to rotation.
+fn has_equal_words(chain: &Chain) -> bool {
+    let entries = chain.entries();
+    for (place, (_, word)) in entries.iter().enumerate() {
         for (_, other) in entries.iter().take(place) {
             if is_rotation(word.as_slice(), other.as_slice(), 0) {
                 return true;
@@ -61,16 +71,19 @@ fn is_repeated(chain: &Chain) -> bool {
     false
 }
 
-/// The modes that suit a chain, in the order in which they are tried.
+/// The modes that suit a chain, in the order in which they are tried. A chain with symmetries has many bases that are as good;
+/// near polygons lead to one with small numbers, and where the words are short, those of a good surface.
 fn modes(alloc: Global, chain: &Chain) -> Result<Vec<Mode>, AllocError> {
     let near = |thousandths| Mode::Near { thousandths };
-    if is_repeated(chain) {
-        Vec::from_slice(
-            alloc,
-            &[near(1), near(3), near(10), Mode::Plain, Mode::Surface],
-        )
+    let has_equal_words = has_equal_words(chain);
+    if has_equal_words && chain.positions() <= chain.words().saturating_mul(SHORT_WORD) {
+        let modes = [Mode::Surface, near(1), near(3), near(10), Mode::Plain];
+        Vec::from_slice(alloc, modes.as_slice())
+    } else if has_equal_words || has_powers(chain) {
+        let modes = [near(1), near(3), near(10), Mode::Plain, Mode::Surface];
+        Vec::from_slice(alloc, modes.as_slice())
     } else {
-        Vec::from_slice(alloc, &[Mode::Plain, near(1), near(3), Mode::Surface])
+        Vec::from_slice(alloc, &[Mode::Plain, near(1), near(3)])
     }
 }
 
@@ -82,8 +95,8 @@ fn pivots(mode: Mode, rows: usize) -> u32 {
         .unwrap_or(0)
         .max(rows.saturating_mul(2));
     let share = match mode {
-        Mode::Plain => 2,
-        Mode::Near { .. } | Mode::Surface => 1,
+        Mode::Plain | Mode::Surface => 2,
+        Mode::Near { .. } => 1,
     };
     u32::try_from(most.saturating_mul(share)).unwrap_or(u32::MAX)
 }

@@ -18,3 +18,4 @@ pub mod PartLoops
 pub mod Tightness
 pub mod CertificateRanges
 pub mod EndingLaws
+pub mod TryLaws

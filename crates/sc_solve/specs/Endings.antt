@@ -1,5 +1,5 @@
 -- The end of the search for an optimal basis.
-use Rattle.std.specs.Prelude.{◌≡◌, ℕ, ◌*◌, List, map, length, pos}
+use Rattle.std.specs.Prelude.{◌≡◌, ℕ, ◌*◌, Bool, true, false, List, map, length, pos}
 use Rattle.std.specs.List.{AllByRecursion}
 use Rattle.sc_theory.specs.Chains.{Chain, positions}
 use Rattle.sc_theory.specs.Fatgraphs.{cost}
@@ -92,6 +92,13 @@ pub record IsCertified (c : Chain) (e : Ending) (list : Prices) (f : Surface) (s
   pub least_totals : AreDistances c list s.tables
 
 -- ---- why there is none
+-- all pivots of a budget are made
+abbrev pub is_budget : SolveFault → Bool
+is_budget (Budget journal improving) = true
+is_budget (Wide journal at) = false
+is_budget (Sides journal part so_far next) = false
+is_budget Memory = false
+
 -- the fault of the lift after these pivots
 abbrev pub IsUnlifted : List Pivot → LiftFault → SolveFault → Type 0
 IsUnlifted journal (lift_faults.Wide at) (Budget pivots improving) = ⊥

@@ -16,6 +16,7 @@ mod solving;
 mod tabling;
 #[cfg(test)]
 mod tests;
+mod tries;
 
 pub use columns::{column_of, right_side_of};
 pub use lifting::{LiftFault, lift};

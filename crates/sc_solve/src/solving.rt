@@ -15,12 +15,11 @@ ghost use Rattle.sc_solve.specs.Solutions.{IsSolution, IsStopped, certificate_of
 ghost use Rattle.sc_solve.specs.Endings.{IsEnding, IsCertified, IsUnlifted, IsUnglued};
 
 use crate::assembling::{PartStop, surface_of};
-use crate::ending::{Ending, check_chain, optimal_ending};
+use crate::ending::{Ending, check_chain};
 use crate::lifting::{LiftFault, lift};
 use crate::tabling::tables_of;
+use crate::tries::solved;
 use crate::{Solution, SolveFault};
-use sc_advice::Mode;
-use sc_candidates::tries;
 use sc_certificate::{PriceList, Tables};
 use sc_chain::{Chain, Pairs, Pivot};
 use sc_fatgraph::{Fatgraph, fraction};
@@ -121,7 +120,11 @@ fn glued_solution(
 }
 
 /// The solution of an optimal basis.
-fn solution_of(alloc: Global, chain: &Chain, ending: Ending) -> Result<Solution, SolveFault>
+pub(crate) fn solution_of(
+    alloc: Global,
+    chain: &Chain,
+    ending: Ending,
+) -> Result<Solution, SolveFault>
     requires balanced { IsBalanced chain.now }
     requires ending { (budget : ℕ) × IsEnding chain.now budget ending }
     ensures solution { (budget : ℕ) → IsEnding chain.now budget ending → IfOk result (IsSolution chain.now budget) }
@@ -133,14 +136,6 @@ fn solution_of(alloc: Global, chain: &Chain, ending: Ending) -> Result<Solution,
         Ok(list) => glued_solution(alloc, chain, ending, list),
         Err(fault) => Err(unlifted(ending.journal, fault)),
     }
-}
-
-/// The mode of advice that suits a chain best.
-fn first_mode(alloc: Global, chain: &Chain) -> Option<Mode> {
-    let pairs = Pairs::of(alloc, chain).ok()?;
-    let rows = pairs.count().saturating_add(chain.words());
-    let tries = tries(alloc, chain, rows).ok()?;
-    tries.first()?.mode
 }
 
 /// A surface over copies of a balanced chain whose cost for each copy is the least that any has, by at most `budget` pivots.
@@ -167,8 +162,6 @@ pub fn extremal(alloc: Global, chain: &Chain, budget: u32) -> Result<Solution, S
     ensures stopped { IfErr result (IsStopped chain.now budget) }
 {
     check_chain(chain);
-    let mode = first_mode(alloc, chain);
-    let ending = optimal_ending(alloc, chain, mode, budget)?;
-    let solution = solution_of(alloc, chain, ending)?;
+    let solution = solved(alloc, chain, budget)?;
     Ok(solution)
 }

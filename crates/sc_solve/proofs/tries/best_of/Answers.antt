@@ -1,0 +1,9 @@
+use Rattle.std.specs.Prelude.{Option, IfSome}
+use Rattle.std.proofs.Common.{subst}
+use Rattle.sc_solve.specs.Solutions.{IsStopped}
+use Rattle.sc_solve.specs.declared.solution.SolveFault.{SolveFault}
+use Rattle.sc_solve.proofs.tries.best_of.Goals as goal
+
+pub returns-in-Some : goal.returns-in-Some
+returns-in-Some c = λ chain budget known is.
+    c.more_telling.ensures chain budget (subst (λ (o : Option SolveFault). IfSome o (IsStopped chain budget)) c.in-Some.is known) is
