@@ -6,7 +6,7 @@ use Rattle.sc_line.proofs.FaultLaws.{faultless_first}
 use Rattle.sc_certificate.specs.Certificates.{certificate_plan}
 use Rattle.sc_prices.specs.declared.verdict.Condition.TheVariants.{Flaw}
 use Rattle.sc_app.specs.declared.command.Command.{Command}
-use Rattle.sc_app.specs.declared.command.Command.TheVariants.{Surface, Shape, Check, Svg, Scl}
+use Rattle.sc_app.specs.declared.command.Command.TheVariants.{Surface, Shape, Check, Svg, Scl, Generate}
 use Rattle.sc_app.specs.declared.status.Status.{Status}
 use Rattle.sc_app.specs.declared.status.Status.TheVariants.{Done, Malformed, Large, Rejected, Budget, Wide, Sides}
 use Rattle.sc_app.specs.declared.status.What.TheVariants.{Words, Positions}
@@ -18,6 +18,7 @@ use Rattle.sc_app.specs.Shape.{IsShape}
 use Rattle.sc_app.specs.Svg.{IsPicture}
 use Rattle.sc_app.specs.Check.{CheckResponds, CheckAccepts, IsCheckStatus}
 use Rattle.sc_app.specs.Scl.{SclResponds, SclAccepts, IsSclStatus}
+use Rattle.sc_app.specs.Generate.{GenerateResponds, IsSolverStatus}
 use Rattle.sc_app.specs.Answers.{AnswersTo, IsAccepted, IsOwnStatus}
 use Rattle.sc_app.proofs.Inputs.{certificate_faultless, says_no_fault}
 use Rattle.sc_app.proofs.Chains.{good_or_malformed, same_lines}
@@ -48,6 +49,13 @@ own_of_scl n input text (Large (Positions count)) a r =
     absurd (omega (arith, many.many, a.2.few_positions))
 own_of_scl n input text _ a r = absurd r.3
 
+own_of_generate : (seed letters : ℕ) (text : List ℕ) (s : Status) → GenerateResponds seed letters s text → IsSolverStatus s
+own_of_generate seed letters text Done r = tt
+own_of_generate seed letters text Budget r = tt
+own_of_generate seed letters text Wide r = tt
+own_of_generate seed letters text Sides r = tt
+own_of_generate seed letters text _ r = absurd r
+
 pub own_status : (c : Command) (input text : List ℕ) (s : Status) → IsAccepted c input → AnswersTo c input s text → IsOwnStatus c input s
 own_status Surface input text s a (inl long) = absurd (omega (arith, a.0, long.0))
 own_status Surface input text s a (inr r) = own_of_sides IsReport input text s a.1 r.1
@@ -59,3 +67,4 @@ own_status Svg input text s a (inl long) = absurd (omega (arith, a.0, long.0))
 own_status Svg input text s a (inr r) = own_of_sides IsPicture input text s a.1 r.1
 own_status (Scl pivots) input text s a (inl long) = absurd (omega (arith, a.0, long.0))
 own_status (Scl pivots) input text s a (inr r) = own_of_scl pivots input text s a.1 r.1
+own_status (Generate seed letters) input text s a r = own_of_generate seed letters text s r

@@ -239,3 +239,12 @@ module _ (words : List (List ℕ)) (left left' : Option (List ℕ)) (faults faul
         let ends = subst (λ (k : StatusKind). EndsBy k h.command (given (reads h.command) left) R W old new t) text (ends_as t e h) in
         subst (λ (d : Command). Delivers d (given (reads d) left) old new t) (one_command words h.command c h.words_are form) ends
   ]
+
+  -- the answer of a command, by any status that the words and the input decide
+  pub answer_of : (c : Command) → IsForm c words → IsDecided s → Delivers c (given (reads c) left) old new s
+  answer_of c form d = elim m [
+    | inl h ↦ absurd (no_command words c form h.none)
+    | inr h ↦
+        subst (λ (d : Command). Delivers d (given (reads d) left) old new s) (one_command words h.command c h.words_are form)
+        (decided_by (kind_of s) h.command (given (reads h.command) left) R W old new s d h.ends)
+  ]

@@ -1,5 +1,5 @@
 -- Words are the form of at most one command, and which words are a form of `scl`.
-use Rattle.std.proofs.Common.{◌≡◌, ◌↔◌, inl, inr, ℕ, ◌≤◌, Bool, true, false, List, [], ◌∷◌, Option, None, Some, ℤ, pos, ◌&&◌, if◌then◌else◌, codes, refl, ap, sym, ◌∙◌, subst}
+use Rattle.std.proofs.Common.{◌≡◌, ◌↔◌, inl, inr, ℕ, ◌≤◌, Bool, true, false, List, [], ◌∷◌, Option, None, Some, ℤ, pos, ◌&&◌, if◌then◌else◌, codes, refl, ap, ap₂, sym, ◌∙◌, subst, arith}
 use Rattle.std.specs.Option.{option_map}
 use Rattle.std.specs.Str.{bytes_eq}
 use Rattle.std.proofs.lemmas.Slice.Eq.{bytes_eq-Decides}
@@ -11,10 +11,11 @@ use Rattle.sc_line.specs.Faults.{between}
 use Rattle.sc_line.proofs.LineLaws.{number_of-spelling, number_of_is}
 use Rattle.sc_line.proofs.NumberLaws.{between-natural, natural_from}
 use Rattle.sc_text.specs.declared.limits.TheConstants.{MAX_PIVOTS}
+use Rattle.sc_random.specs.declared.limits.TheConstants.{MAX_LETTERS}
 use Rattle.sc_app.specs.declared.command.Command.{Command}
-use Rattle.sc_app.specs.declared.command.Command.TheVariants.{Surface, Shape, Check, Svg, Scl}
-use Rattle.sc_app.specs.declared.limits.TheConstants.{DEFAULT_PIVOTS}
-use Rattle.sc_app.specs.Forms.{IsForm, HasNoForm, pivots_in, pivots_of, AreWordsOfScl}
+use Rattle.sc_app.specs.declared.command.Command.TheVariants.{Surface, Shape, Check, Svg, Scl, Generate}
+use Rattle.sc_app.specs.declared.limits.TheConstants.{DEFAULT_PIVOTS, MAX_SEED}
+use Rattle.sc_app.specs.Forms.{IsForm, HasNoForm, natural_in, pivots_of, seed_of, letters_of, generate, AreWordsOfScl, AreWordsOfGenerate}
 
 same_some : {A : Type 0} (o : Option A) (x y : A) → o ≡ Some x → o ≡ Some y → x ≡ y
 same_some o x y a b = cc
@@ -28,38 +29,40 @@ one_command words c d a b = same_some _ c d a b
 pub no_command : (words : List (List ℕ)) (c : Command) → IsForm c words → HasNoForm words → ⊥
 no_command words c a none = some_or_none _ c a none
 
--- ---- numbers of pivots
+-- ---- numbers in ranges
 
--- a number in its range is one of pivots
-pivots_of_number : (n : ℕ) → 1 ≤ n → n ≤ MAX_PIVOTS → pivots_in (Some (pos n)) ≡ Some n
-pivots_of_number n low high = cond-true (between 1 MAX_PIVOTS (pos n)) (Some n) None (between-natural 1 MAX_PIVOTS n low high)
+module _ (low high : ℕ) where
+  -- a number in the range is told
+  number_told : (n : ℕ) → low ≤ n → n ≤ high → natural_in low high (Some (pos n)) ≡ Some n
+  number_told n above below = cond-true (between low high (pos n)) (Some n) None (between-natural low high n above below)
 
-out_of_range : (z : ℤ) → between 1 MAX_PIVOTS z ≡ false → pivots_in (Some z) ≡ None
-out_of_range z outside = cond-false (between 1 MAX_PIVOTS z) (Some (natural (Some z))) None outside
+  out_of_range : (z : ℤ) → between low high z ≡ false → natural_in low high (Some z) ≡ None
+  out_of_range z outside = cond-false (between low high z) (Some (natural (Some z))) None outside
 
-no_number : (word : List ℕ) → number_of word ≡ None → pivots_of word ≡ None
-no_number word none = ap pivots_in none
+  -- the word of a number that is told is its spelling
+  number_spelled : (word : List ℕ) (n : ℕ) → natural_in low high (number_of word) ≡ Some n → (word ≡ spelling (pos n)) × (low ≤ n) × (n ≤ high)
+  number_spelled word n e =
+      elim (cases_option (number_of word)) [
+        | inl none ↦ let other : None ≡ Some n = sym (ap (natural_in low high) none) ∙ e in absurd (cc)
+        | inr some ↦ of_number some.0 some.1
+      ]
+    where
+      of_number : (z : ℤ) → number_of word ≡ Some z → (word ≡ spelling (pos n)) × (low ≤ n) × (n ≤ high)
+      of_number z is = elim (cases_Bool (between low high z)) [
+        | inl inside ↦
+            let k = natural_from low high z inside in
+            let named : natural_in low high (number_of word) ≡ Some k.natural = ap (natural_in low high) (is ∙ ap Some k.is) ∙ number_told k.natural k.low_end k.high_end in
+            let same : k.natural ≡ n = same_some (natural_in low high (number_of word)) k.natural n named e in (
+              number_of_is word z is ∙ ap spelling (k.is ∙ ap pos same),
+              subst (λ (m : ℕ). low ≤ m) same k.low_end,
+              subst (λ (m : ℕ). m ≤ high) same k.high_end,
+            )
+        | inr outside ↦ let other : None ≡ Some n = sym (ap (natural_in low high) is ∙ out_of_range z outside) ∙ e in absurd (cc)
+      ]
 
--- the word of a number of pivots is its spelling
-pivots_spelled : (word : List ℕ) (n : ℕ) → pivots_of word ≡ Some n → (word ≡ spelling (pos n)) × (1 ≤ n) × (n ≤ MAX_PIVOTS)
-pivots_spelled word n e =
-    elim (cases_option (number_of word)) [
-      | inl none ↦ let other : None ≡ Some n = sym (no_number word none) ∙ e in absurd (cc)
-      | inr some ↦ of_number some.0 some.1
-    ]
-  where
-    of_number : (z : ℤ) → number_of word ≡ Some z → (word ≡ spelling (pos n)) × (1 ≤ n) × (n ≤ MAX_PIVOTS)
-    of_number z is = elim (cases_Bool (between 1 MAX_PIVOTS z)) [
-      | inl inside ↦
-          let k = natural_from 1 MAX_PIVOTS z inside in
-          let named : pivots_of word ≡ Some k.natural = ap pivots_in (is ∙ ap Some k.is) ∙ pivots_of_number k.natural k.low_end k.high_end in
-          let same : k.natural ≡ n = same_some (pivots_of word) k.natural n named e in (
-            number_of_is word z is ∙ ap spelling (k.is ∙ ap pos same),
-            subst (λ (m : ℕ). 1 ≤ m) same k.low_end,
-            subst (λ (m : ℕ). m ≤ MAX_PIVOTS) same k.high_end,
-          )
-      | inr outside ↦ let other : None ≡ Some n = sym (ap pivots_in is ∙ out_of_range z outside) ∙ e in absurd (cc)
-    ]
+  -- and the spelling of a number in the range tells it
+  spelling_told : (n : ℕ) → low ≤ n → n ≤ high → natural_in low high (number_of (spelling (pos n))) ≡ Some n
+  spelling_told n above below = ap (natural_in low high) (number_of-spelling (pos n)) ∙ number_told n above below
 
 -- ---- the forms of `scl`
 
@@ -71,10 +74,13 @@ by_tests false false false true e n is = absurd (cc)
 by_tests false false false false true n is = (refl, cc)
 by_tests false false false false false n is = absurd (cc)
 
-by_option : (a : Bool) (o : Option ℕ) (n : ℕ) → (if a then option_map Scl o else None) ≡ Some (Scl n) → (a ≡ true) × (o ≡ Some n)
-by_option true None n e = absurd (cc)
-by_option true (Some m) n e = (refl, cc)
-by_option false o n e = absurd (cc)
+by_option : (a b : Bool) (o p q : Option ℕ) (n : ℕ) → (if a then option_map Scl o else if b then generate p q else None) ≡ Some (Scl n) → (a ≡ true) × (o ≡ Some n)
+by_option true b None p q n e = absurd (cc)
+by_option true b (Some m) p q n e = (refl, cc)
+by_option false true o None q n e = absurd (cc)
+by_option false true o (Some x) None n e = absurd (cc)
+by_option false true o (Some x) (Some y) n e = absurd (cc)
+by_option false false o p q n e = absurd (cc)
 
 scl_words : (n : ℕ) (words : List (List ℕ)) → IsForm (Scl n) words → AreWordsOfScl n words
 scl_words n [] e = absurd (cc)
@@ -83,9 +89,9 @@ scl_words n (word ∷ []) e =
     inl (ap (λ (w : List ℕ). w ∷ []) ((bytes_eq-Decides word (codes "scl")).0 t.0), t.1)
 scl_words n (word ∷ option ∷ []) e = absurd (cc)
 scl_words n (word ∷ option ∷ number ∷ []) e =
-    let t = by_option (bytes_eq word (codes "scl") && bytes_eq option (codes "--pivots")) (pivots_of number) n e in
+    let t = by_option (bytes_eq word (codes "scl") && bytes_eq option (codes "--pivots")) (bytes_eq word (codes "gen")) (pivots_of number) (seed_of option) (letters_of number) n e in
     let both = and_parts (bytes_eq word (codes "scl")) (bytes_eq option (codes "--pivots")) t.0 in
-    let spelled = pivots_spelled number n t.1 in
+    let spelled = number_spelled 1 MAX_PIVOTS number n t.1 in
     inr (
       (λ i. (bytes_eq-Decides word (codes "scl")).0 both.0 i ∷ (bytes_eq-Decides option (codes "--pivots")).0 both.1 i ∷ spelled.0 i ∷ []),
       spelled.1,
@@ -97,7 +103,50 @@ words_of_scl : (n : ℕ) (words : List (List ℕ)) → AreWordsOfScl n words →
 words_of_scl n words (inl a) = subst (IsForm (Scl n)) (sym a.0) (ap (λ (k : ℕ). Some (Scl k)) (sym a.1))
 words_of_scl n words (inr a) =
     subst (IsForm (Scl n)) (sym a.0)
-    (ap (λ (o : Option ℤ). option_map Scl (pivots_in o)) (number_of-spelling (pos n)) ∙ ap (option_map Scl) (pivots_of_number n a.1 a.2))
+    (ap (option_map Scl) (spelling_told 1 MAX_PIVOTS n a.1 a.2))
 
 pub scl_forms : (n : ℕ) (words : List (List ℕ)) → IsForm (Scl n) words ↔ AreWordsOfScl n words
 scl_forms n words = (scl_words n words, words_of_scl n words)
+
+-- ---- the form of `gen`
+
+one_word_is_none : (a b c d e : Bool) (seed letters : ℕ) → (if a then Some Surface else if b then Some Shape else if c then Some Check else if d then Some Svg else if e then Some (Scl DEFAULT_PIVOTS) else None) ≡ Some (Generate seed letters) → ⊥
+one_word_is_none true b c d e seed letters is = cc
+one_word_is_none false true c d e seed letters is = cc
+one_word_is_none false false true d e seed letters is = cc
+one_word_is_none false false false true e seed letters is = cc
+one_word_is_none false false false false true seed letters is = cc
+one_word_is_none false false false false false seed letters is = cc
+
+by_numbers : (a b : Bool) (o p q : Option ℕ) (seed letters : ℕ) → (if a then option_map Scl o else if b then generate p q else None) ≡ Some (Generate seed letters)
+    → (b ≡ true) × (p ≡ Some seed) × (q ≡ Some letters)
+by_numbers true b None p q seed letters e = absurd (cc)
+by_numbers true b (Some m) p q seed letters e = absurd (cc)
+by_numbers false true o None q seed letters e = absurd (cc)
+by_numbers false true o (Some x) None seed letters e = absurd (cc)
+by_numbers false true o (Some x) (Some y) seed letters e = (refl, cc, cc)
+by_numbers false false o p q seed letters e = absurd (cc)
+
+generate_words : (seed letters : ℕ) (words : List (List ℕ)) → IsForm (Generate seed letters) words → AreWordsOfGenerate seed letters words
+generate_words seed letters [] e = absurd (cc)
+generate_words seed letters (word ∷ []) e =
+    absurd (one_word_is_none (bytes_eq word (codes "surface")) (bytes_eq word (codes "shape")) (bytes_eq word (codes "check")) (bytes_eq word (codes "svg")) (bytes_eq word (codes "scl")) seed letters e)
+generate_words seed letters (word ∷ option ∷ []) e = absurd (cc)
+generate_words seed letters (word ∷ option ∷ number ∷ []) e =
+    let t = by_numbers (bytes_eq word (codes "scl") && bytes_eq option (codes "--pivots")) (bytes_eq word (codes "gen")) (pivots_of number) (seed_of option) (letters_of number) seed letters e in
+    let first = number_spelled 0 MAX_SEED option seed t.1 in
+    let second = number_spelled 1 MAX_LETTERS number letters t.2 in (
+      (λ i. (bytes_eq-Decides word (codes "gen")).0 t.0 i ∷ first.0 i ∷ second.0 i ∷ []),
+      first.2,
+      second.1,
+      second.2,
+    )
+generate_words seed letters (word ∷ option ∷ number ∷ other ∷ others) e = absurd (cc)
+
+words_of_generate : (seed letters : ℕ) (words : List (List ℕ)) → AreWordsOfGenerate seed letters words → IsForm (Generate seed letters) words
+words_of_generate seed letters words a =
+    subst (IsForm (Generate seed letters)) (sym a.0)
+    (ap₂ generate (spelling_told 0 MAX_SEED seed (omega arith) a.1) (spelling_told 1 MAX_LETTERS letters a.2 a.3))
+
+pub generate_form : (seed letters : ℕ) (words : List (List ℕ)) → IsForm (Generate seed letters) words ↔ AreWordsOfGenerate seed letters words
+generate_form seed letters words = (generate_words seed letters words, words_of_generate seed letters words)

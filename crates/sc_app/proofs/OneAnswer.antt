@@ -18,7 +18,7 @@ use Rattle.sc_prices.specs.declared.verdict.Condition.TheVariants.{Flaw}
 use Rattle.sc_prices.specs.Conditions.{AllHold, IsFirstFailing}
 use Rattle.sc_prices.proofs.Failing.{one_failing, none_failing}
 use Rattle.sc_app.specs.declared.command.Command.{Command}
-use Rattle.sc_app.specs.declared.command.Command.TheVariants.{Surface, Shape, Check, Svg, Scl}
+use Rattle.sc_app.specs.declared.command.Command.TheVariants.{Surface, Shape, Check, Svg, Scl, Generate}
 use Rattle.sc_app.specs.declared.status.Status.{Status}
 use Rattle.sc_app.specs.declared.status.Status.TheVariants.{Done, Malformed, Large, Rejected, Budget, Wide}
 use Rattle.sc_app.specs.declared.status.Status.TheVariants as statuses
@@ -163,6 +163,7 @@ one_response Shape input text text' s s' one r r' = one_surface_status input s s
 one_response Svg input text text' s s' one r r' = one_surface_status input s s' (surface_cause IsPicture input text s r) (surface_cause IsPicture input text' s' r')
 one_response Check input text text' s s' one r r' = one_check_status input s s' (check_cause input text s r) (check_cause input text' s' r')
 one_response (Scl pivots) input text text' s s' one r r' = one_scl_status input s s' (scl_cause pivots input text s one r) (scl_cause pivots input text' s' one r')
+one_response (Generate seed letters) input text text' s s' one r r' = absurd one
 
 one_of_reading : (reading : Reading) (c : Command) (input text text' : List ℕ) (s s' : Status) → DeterminedBy reading c input → RespondsBy reading c input s text → RespondsBy reading c input s' text' → s ≡ s'
 one_of_reading Nothing c input text text' s s' one a b = one_response c [] text text' s s' one a b

@@ -12,7 +12,7 @@ use Rattle.sc_reduce.specs.Lines.{chain_of}
 use Rattle.sc_certificate.specs.Certificates.{Certificate}
 use Rattle.sc_prices.specs.declared.verdict.Condition.TheVariants.{Flaw}
 use Rattle.sc_app.specs.declared.command.Command.{Command}
-use Rattle.sc_app.specs.declared.command.Command.TheVariants.{Surface, Shape, Check, Svg, Scl}
+use Rattle.sc_app.specs.declared.command.Command.TheVariants.{Surface, Shape, Check, Svg, Scl, Generate}
 use Rattle.sc_app.specs.declared.status.Status.{Status}
 use Rattle.sc_app.specs.declared.status.Status.TheVariants.{Done, Malformed, Large, Rejected, Budget, Wide}
 use Rattle.sc_app.specs.declared.status.Status.TheVariants as statuses
@@ -105,6 +105,7 @@ response_text Shape input text text' s one r r' = sides_text IsShape (λ c n g t
 response_text Svg input text text' s one r r' = sides_text IsPicture (λ c n g text text' fatgraph told told'. one_drawing c n g fatgraph text text' told told') input text text' s r r'
 response_text Check input text text' s one r r' = check_text input text text' s r r'
 response_text (Scl pivots) input text text' s one r r' = scl_text pivots input text text' s one r r'
+response_text (Generate seed letters) input text text' s one r r' = absurd one
 
 pub one_text : (reading : Reading) (c : Command) (input text text' : List ℕ) (s : Status) → DeterminedBy reading c input → RespondsBy reading c input s text → RespondsBy reading c input s text' → text ≡ text'
 one_text Nothing c input text text' s one a b = response_text c [] text text' s one a b

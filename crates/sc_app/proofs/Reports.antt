@@ -1,8 +1,9 @@
 -- The text of a surface's report, and what `surface` and `scl` answer.
-use Rattle.std.proofs.Common.{◌≡◌, ℕ, ◌*◌, List, [], ◌++◌, codes, ℤ, pos, ◌-ℤ◌, ap₂, ◌∙◌, subst, sym, refl}
+use Rattle.std.proofs.Common.{◌≡◌, ℕ, ◌*◌, List, [], ◌++◌, codes, ℤ, pos, ◌-ℤ◌, ap, ap₂, ◌∙◌, subst, sym, refl, map, arith}
+use Rattle.std.proofs.lemmas.List.{length-map}
 use Rattle.sc_whole.specs.Spelling.{spelling}
 use Rattle.sc_theory.specs.Chains.{Chain, IsBalanced}
-use Rattle.sc_theory.specs.Fatgraphs.{Sides, IsFatgraph, vertices, edges, cost}
+use Rattle.sc_theory.specs.Fatgraphs.{Sides, IsFatgraph, IsLeast, vertices, edges, cost}
 use Rattle.sc_fraction.specs.declared.frac.Frac.{Frac}
 use Rattle.sc_fraction.specs.Frac.{IsQuotient, frac_text}
 use Rattle.sc_fatgraph.specs.Surfaces.{Surface, surface}
@@ -11,14 +12,19 @@ use Rattle.sc_prices.specs.Conditions.{stated}
 use Rattle.sc_solve.specs.declared.solution.Solution.{Solution}
 use Rattle.sc_solve.specs.declared.solution.SolveFault.{SolveFault}
 use Rattle.sc_solve.specs.declared.solution.SolveFault.TheVariants as faults
-use Rattle.sc_solve.specs.Solutions.{IsStopped, certificate_of}
+use Rattle.sc_solve.specs.Solutions.{IsSolution, IsStopped, certificate_of}
 use Rattle.sc_chain.specs.declared.lines.RawLine.{RawLine}
 use Rattle.sc_chain.specs.ChainText.{IsChainText}
 use Rattle.sc_reduce.specs.Lines.{chain_of, IsWithin}
 use Rattle.sc_app.specs.Notes.{line}
 use Rattle.sc_app.specs.Said.{Says, Refuses, RespondsBySides}
 use Rattle.sc_app.specs.Surface.{euler, report, fraction_label}
+use Rattle.sc_chain.specs.declared.polygon.Pivot.{Pivot}
+use Rattle.sc_simplex.proofs.FirstSeen.{length_first_seen}
+use Rattle.sc_random.specs.Drawn.{drawn_chain}
 use Rattle.sc_app.specs.Scl.{SclResponds, IsValueOf, IsToldBy}
+use Rattle.sc_app.specs.Generate.{GenerateResponds, IsSummary, summary}
+use Rattle.sc_app.specs.declared.limits.TheConstants.{DEFAULT_PIVOTS}
 use Rattle.sc_app.specs.declared.status.Status.{Status}
 use Rattle.sc_app.specs.declared.status.Status.TheVariants.{Done, Budget, Wide}
 use Rattle.sc_app.specs.declared.status.Status.TheVariants as statuses
@@ -83,3 +89,27 @@ stopped_value n c (faults.Sides journal part so_far next) s text balanced stoppe
     subst (λ (x : Status). IsValueOf n c x text) (sym told.0)
     (record { balanced = balanced; journal = journal.items; part = part; so_far = so_far; next = next; evidence = stopped; text_is = told.1 })
 stopped_value n c faults.Memory s text balanced stopped told = absurd told
+
+-- the same as an answer of `gen`, whose chain is the drawn one
+pub stopped_generation : (seed letters : ℕ) (c : Chain) (fault : SolveFault) (s : Status) (text : List ℕ) → c ≡ drawn_chain seed letters → IsBalanced c → IsStopped c DEFAULT_PIVOTS fault
+    → IsToldBy c fault s text → GenerateResponds seed letters s text
+stopped_generation seed letters c fault s text same balanced stopped told =
+    refusal s fault told (subst (λ (d : Chain). IsValueOf DEFAULT_PIVOTS d s text) same (stopped_value DEFAULT_PIVOTS c fault s text balanced stopped told))
+  where
+    refusal : (s : Status) (fault : SolveFault) → IsToldBy c fault s text → IsValueOf DEFAULT_PIVOTS (drawn_chain seed letters) s text → GenerateResponds seed letters s text
+    refusal Done (faults.Budget journal improving) told v = absurd (cc told.0)
+    refusal Done (faults.Wide journal operation) told v = absurd (cc told.0)
+    refusal Done (faults.Sides journal part so_far next) told v = absurd (cc told.0)
+    refusal Done faults.Memory told v = absurd told
+    refusal s fault told v = v
+
+-- the summary of a solution for a chain that is the drawn one
+pub summarized : (seed letters : ℕ) (c : Chain) (s : Solution) (text : List ℕ) → c ≡ drawn_chain seed letters → IsSolution c DEFAULT_PIVOTS s → IsLeast c s.n s.fatgraph.sides
+    → text ≡ summary seed letters c s → IsSummary seed letters text
+summarized seed letters c s text same solves least is = record {
+  solution = s;
+  solves = subst (λ (d : Chain). IsSolution d DEFAULT_PIVOTS s) same solves;
+  least = subst (λ (d : Chain). IsLeast d s.n s.fatgraph.sides) same least;
+  few = omega (arith, solves.columns, length_first_seen (map (λ (p : Pivot). p.polygon) s.journal.items), length-map s.journal.items (λ (p : Pivot). p.polygon));
+  text_is = is ∙ ap (λ (d : Chain). summary seed letters d s) same;
+}

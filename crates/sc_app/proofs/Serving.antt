@@ -3,7 +3,7 @@ use Rattle.std.proofs.Common.{◌≡◌, ℕ, ◌≤◌, ◌⊎◌, inl, inr, Li
 use Rattle.std.proofs.lemmas.List.{drop_all}
 use Rattle.sc_outside.specs.Told.{Delivered, Took, TookPart}
 use Rattle.sc_app.specs.declared.command.Command.{Command}
-use Rattle.sc_app.specs.declared.command.Command.TheVariants.{Surface, Shape, Check, Svg, Scl}
+use Rattle.sc_app.specs.declared.command.Command.TheVariants.{Surface, Shape, Check, Svg, Scl, Generate}
 use Rattle.sc_app.specs.declared.command.Reading.{Reading}
 use Rattle.sc_app.specs.declared.command.Reading.TheVariants.{Nothing, AtMost}
 use Rattle.sc_app.specs.declared.status.Status.{Status}
@@ -20,6 +20,7 @@ use Rattle.sc_app.specs.Shape.{IsShape}
 use Rattle.sc_app.specs.Svg.{IsPicture}
 use Rattle.sc_app.specs.Check.{CheckResponds}
 use Rattle.sc_app.specs.Scl.{SclResponds}
+use Rattle.sc_app.specs.Generate.{GenerateResponds}
 use Rattle.sc_app.specs.Answers.{Responds, RespondsBy, AnswersTo, EndsBy}
 
 -- ---- a response has a text or none, as the kind of its status says
@@ -54,12 +55,20 @@ scl_suits n input text Wide r = tt
 scl_suits n input text Sides r = tt
 scl_suits n input text _ r = absurd r.3
 
+generate_suits : (seed letters : ℕ) (text : List ℕ) (s : Status) → GenerateResponds seed letters s text → Suits (kind_of s) text
+generate_suits seed letters text Done r = tt
+generate_suits seed letters text Budget r = tt
+generate_suits seed letters text Wide r = tt
+generate_suits seed letters text Sides r = tt
+generate_suits seed letters text _ r = absurd r
+
 suits : (c : Command) (input text : List ℕ) (s : Status) → Responds c input s text → Suits (kind_of s) text
 suits Surface input text s r = sides_suit IsReport input text s r
 suits Shape input text s r = sides_suit IsShape input text s r
 suits Svg input text s r = sides_suit IsPicture input text s r
 suits Check input text s r = check_suits input text s r
 suits (Scl pivots) input text s r = scl_suits pivots input text s r
+suits (Generate seed letters) input text s r = generate_suits seed letters text s r
 
 -- ---- so a command ends
 

@@ -40,7 +40,7 @@ use Rattle.std.proofs.lemmas.Nat.Gcd.{IsGcd-swap}
 use Rattle.sc_whole.proofs.DivisorLaws.{gcd_exists, IsGcd-pos}
 use Rattle.sc_algebra.proofs.Ints.{products}
 use Rattle.sc_app.specs.declared.command.Command.{Command}
-use Rattle.sc_app.specs.declared.command.Command.TheVariants.{Surface, Shape, Check, Svg, Scl}
+use Rattle.sc_app.specs.declared.command.Command.TheVariants.{Surface, Shape, Check, Svg, Scl, Generate}
 use Rattle.sc_app.specs.declared.command.Reading.{Reading}
 use Rattle.sc_app.specs.declared.command.Reading.TheVariants.{Nothing, AtMost}
 use Rattle.sc_app.specs.declared.said.Heading.TheVariants.{CertificateText, SurfaceText}
@@ -311,6 +311,7 @@ answered Shape input one none = sides_answered IsShape input none (λ c n g fatg
 answered Svg input one none = sides_answered IsPicture input none (λ c n g fatgraph never. some_drawing c n g fatgraph never)
 answered Check input one none = check_answered input none
 answered (Scl pivots) input one none = scl_answered pivots input one none
+answered (Generate seed letters) input one none = absurd one
 
 pub some_answer : (c : Command) (input : List ℕ) → DeterminedBy (reads c) c input → ((s : Status) (text : List ℕ) → ¬ AnswersTo c input s text) → ⊥
 some_answer c input one none = by_reading (reads c) one none

@@ -2,7 +2,7 @@
 use Rattle.std.specs.Prelude.{◌≡◌, ℕ, ◌<◌, ◌≤◌, ◌⊎◌, List, [], length, Option, IfSome}
 use Rattle.sc_outside.specs.Told.{Took, TookPart}
 use Rattle.sc_app.specs.declared.command.Command.{Command}
-use Rattle.sc_app.specs.declared.command.Command.TheVariants.{Surface, Shape, Check, Svg, Scl}
+use Rattle.sc_app.specs.declared.command.Command.TheVariants.{Surface, Shape, Check, Svg, Scl, Generate}
 use Rattle.sc_app.specs.declared.command.Reading.{Reading}
 use Rattle.sc_app.specs.declared.command.Reading.TheVariants.{Nothing, AtMost}
 use Rattle.sc_app.specs.declared.status.Status.{Status}
@@ -18,6 +18,7 @@ use Rattle.sc_app.specs.Shape.{ShapeResponds}
 use Rattle.sc_app.specs.Svg.{SvgResponds}
 use Rattle.sc_app.specs.Check.{CheckResponds, CheckAccepts, IsCheckStatus}
 use Rattle.sc_app.specs.Scl.{SclResponds, SclAccepts, HasSeveralAnswers, IsSclStatus}
+use Rattle.sc_app.specs.Generate.{GenerateResponds, IsSolverStatus}
 
 -- what a command answers to an input that isn't over its limit: the status, and the text for `out`
 abbrev pub Responds : Command → List ℕ → Status → List ℕ → Type 0
@@ -26,6 +27,7 @@ Responds Shape input status text = ShapeResponds input status text
 Responds Check input status text = CheckResponds input status text
 Responds Svg input status text = SvgResponds input status text
 Responds (Scl pivots) input status text = SclResponds pivots input status text
+Responds (Generate seed letters) input status text = GenerateResponds seed letters status text
 
 -- the same for any input, by what the command reads: one that reads nothing has the empty input
 abbrev pub RespondsBy : Reading → Command → List ℕ → Status → List ℕ → Type 0
@@ -44,13 +46,14 @@ Answers words input status text = (c : Command) × IsForm c words × AnswersTo c
 
 -- ---- inputs with one answer, and inputs that are accepted
 
--- the inputs that have one right answer: all but the balanced chains of `scl`
+-- the inputs that have one right answer: all but the balanced chains of `scl` and of `gen`
 abbrev pub IsDetermined : Command → List ℕ → Type 0
 IsDetermined Surface input = Unit {0}
 IsDetermined Shape input = Unit {0}
 IsDetermined Check input = Unit {0}
 IsDetermined Svg input = Unit {0}
 IsDetermined (Scl pivots) input = ¬ HasSeveralAnswers input
+IsDetermined (Generate seed letters) input = ⊥
 
 -- the same for any input, by what the command reads
 abbrev pub DeterminedBy : Reading → Command → List ℕ → Type 0
@@ -68,6 +71,7 @@ Allows Shape input = SaysSurface input
 Allows Check input = CheckAccepts input
 Allows Svg input = SaysSurface input
 Allows (Scl pivots) input = SclAccepts input
+Allows (Generate seed letters) input = Unit {0}
 
 -- the same for any input, by what the command reads
 abbrev pub AllowsBy : Reading → Command → List ℕ → Type 0
@@ -84,6 +88,7 @@ IsOwnStatus Shape input status = IsStatusOfSides status
 IsOwnStatus Check input status = IsCheckStatus status
 IsOwnStatus Svg input status = IsStatusOfSides status
 IsOwnStatus (Scl pivots) input status = IsSclStatus input status
+IsOwnStatus (Generate seed letters) input status = IsSolverStatus status
 
 -- an answer of the command's own to the input came, and `out` took its text
 abbrev pub IsOwnAnswer : Command → List ℕ → Option (List ℕ) → Option (List ℕ) → Status → Type 0

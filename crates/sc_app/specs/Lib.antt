@@ -11,4 +11,5 @@ pub mod Shape
 pub mod Svg
 pub mod Check
 pub mod Scl
+pub mod Generate
 pub mod Answers

@@ -1,12 +1,13 @@
 //! The words of the command line, and what each command reads.
 
 ghost use Rattle.std.specs.Prelude.{◌≡◌, IfSome};
-ghost use Rattle.sc_app.specs.Forms.{bytes_of, named, named_with, pivots_of, form, IsInRange};
+ghost use Rattle.sc_app.specs.Forms.{bytes_of, named, named_with, pivots_of, seed_of, letters_of, form, IsInRange};
 ghost use Rattle.sc_app.specs.Reading.{reads, IsReadable};
 
-use crate::limits::{DEFAULT_PIVOTS, MAX_CHAIN_BYTES, MAX_TEXT_BYTES};
+use crate::limits::{DEFAULT_PIVOTS, MAX_CHAIN_BYTES, MAX_SEED, MAX_TEXT_BYTES};
+use sc_random::limits::MAX_LETTERS;
 use sc_text::limits::MAX_PIVOTS;
-use sc_text::{in_range, number_of};
+use sc_text::{in_range, number_of, within};
 
 /// What the words of the command line ask for.
 #[derive(Clone, Copy, Debug, PartialEq, Eq)]
@@ -23,6 +24,13 @@ pub enum Command {
     Scl {
         /// The pivots that may be made, at least 1.
         pivots: u32,
+    },
+    /// `gen`: reads nothing, and writes a summary of the solution for a chain that is drawn.
+    Generate {
+        /// What the letters are drawn by.
+        seed: u64,
+        /// The letters of a drawn word, from 1 to 8.
+        letters: u32,
     },
 }
 
@@ -46,6 +54,7 @@ impl Command {
                 Reading::AtMost(MAX_TEXT_BYTES)
             }
             Command::Scl { .. } => Reading::AtMost(MAX_CHAIN_BYTES),
+            Command::Generate { .. } => Reading::Nothing,
         }
     }
 }
@@ -78,7 +87,31 @@ fn pivots_of(word: &str) -> Option<u32>
     }
 }
 
-/// The command of a word, an option and its number.
+/// The seed that a word names, in its one spelling.
+fn seed_of(word: &str) -> Option<u64>
+    ensures { result ≡ seed_of word.now }
+{
+    match number_of(word.as_bytes()) {
+        Ok(number) => match within(number, 0, i128::from(MAX_SEED)) {
+            Ok(seed) => Some(seed as u64),
+            Err(_) => None,
+        },
+        Err(_) => None,
+    }
+}
+
+/// The number of letters of a drawn word that a word names: from 1 to the most, in its one spelling.
+fn letters_of(word: &str) -> Option<u32>
+    ensures number { result ≡ letters_of word.now }
+    ensures in_range { IfSome result (λ n. IsInRange (Command.Generate 0 n)) }
+{
+    match number_of(word.as_bytes()) {
+        Ok(number) => in_range(number, 1, MAX_LETTERS).ok(),
+        Err(_) => None,
+    }
+}
+
+/// The command of a word and two others: an option and its number, or two numbers.
 fn command_named_with(word: &str, option: &str, number: &str) -> Option<Command>
     ensures form { result ≡ named_with word.now option.now number.now }
     ensures in_range { IfSome result IsInRange }
@@ -86,6 +119,10 @@ fn command_named_with(word: &str, option: &str, number: &str) -> Option<Command>
     if word == "scl" && option == "--pivots" {
         let pivots = pivots_of(number)?;
         Some(Command::Scl { pivots })
+    } else if word == "gen" {
+        let seed = seed_of(option)?;
+        let letters = letters_of(number)?;
+        Some(Command::Generate { seed, letters })
     } else {
         None
     }

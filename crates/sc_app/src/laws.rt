@@ -1,10 +1,10 @@
 //! Laws of the answers to inputs.
 
 ghost use Rattle.std.specs.Prelude.{◌≡◌, ◌↔◌, ℕ, List};
-ghost use Rattle.sc_app.specs.Forms.{IsForm, AreWordsOfScl};
+ghost use Rattle.sc_app.specs.Forms.{IsForm, AreWordsOfScl, AreWordsOfGenerate};
 ghost use Rattle.sc_app.specs.Answers.{Answers, HasOneAnswer};
 ghost use Rattle.sc_app.specs.declared.command.Command.{Command};
-ghost use Rattle.sc_app.specs.declared.command.Command.TheVariants.{Scl};
+ghost use Rattle.sc_app.specs.declared.command.Command.TheVariants.{Scl, Generate};
 ghost use Rattle.sc_app.specs.declared.status.Status.{Status};
 
 /// No input that has one answer has two: the same words and the same input give one status and one text.
@@ -24,4 +24,9 @@ pub fn an_input_has_an_answer()
 /// The forms of `scl`: the word alone, or with the option `--pivots` and a number.
 pub fn scl_has_two_forms()
     ensures { (n : ℕ) (words : List (List ℕ)) → IsForm (Scl n) words ↔ AreWordsOfScl n words }
+{}
+
+/// The form of `gen`: the word, a seed and a number of letters.
+pub fn gen_has_one_form()
+    ensures { (seed letters : ℕ) (words : List (List ℕ)) → IsForm (Generate seed letters) words ↔ AreWordsOfGenerate seed letters words }
 {}

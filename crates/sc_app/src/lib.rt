@@ -5,6 +5,7 @@ mod answer;
 mod arguments;
 mod check;
 mod command;
+mod generate;
 mod laws;
 pub mod limits;
 mod note;
@@ -20,7 +21,9 @@ mod svg;
 
 pub use arguments::words_of_program;
 pub use command::{Command, Reading, command_of};
-pub use laws::{an_input_has_an_answer, an_input_has_at_most_one_answer, scl_has_two_forms};
+pub use laws::{
+    an_input_has_an_answer, an_input_has_at_most_one_answer, gen_has_one_form, scl_has_two_forms,
+};
 pub use program::{run, run_to_code};
 pub use status::{Status, What};
 

@@ -1,4 +1,4 @@
-//! The most bytes that a command reads, and how many pivots it may make.
+//! The most bytes that a command reads, how many pivots it may make, and the greatest seed.
 
 ghost use Rattle.std.specs.Prelude.{◌≡◌};
 
@@ -11,9 +11,13 @@ pub const MAX_CHAIN_BYTES: usize = 65_536;
 /// The pivots that `scl` may make where the words name no number.
 pub const DEFAULT_PIVOTS: u32 = 20_000;
 
+/// The greatest seed of `gen`: 2^64 - 1.
+pub const MAX_SEED: u64 = 18_446_744_073_709_551_615;
+
 /// The numbers of the limits.
 pub fn numbers()
     ensures text_bytes { MAX_TEXT_BYTES ≡ 67108864 }
     ensures chain_bytes { MAX_CHAIN_BYTES ≡ 65536 }
     ensures default_pivots { DEFAULT_PIVOTS ≡ 20000 }
+    ensures seed { MAX_SEED ≡ 18446744073709551615 }
 {}

@@ -11,6 +11,7 @@ ghost use Rattle.sc_app.specs.Reading.{reads, given, input_for, most_turns, most
 ghost use Rattle.sc_app.specs.Notes.{note_of};
 ghost use Rattle.sc_app.specs.Answers.{Responds, Answers, HasOneAnswer, IsAccepted, IsOwnAnswer, EndsBy, MayAnswer, TookUpTo, IsCall};
 ghost use Rattle.sc_app.specs.Check.{ShowsLeast};
+ghost use Rattle.sc_app.specs.Generate.{GenerateResponds};
 ghost use Rattle.sc_app.specs.Scl.{ShowsScl, OfItsChain, IsInfinite, IsSolved, IsOverBudget, IsTooWide, HasTooManySides};
 ghost use Rattle.sc_app.specs.declared.command.Command.{Command as AnyCommand};
 ghost use Rattle.sc_app.specs.declared.command.Command.TheVariants as commands;
@@ -20,6 +21,7 @@ ghost use Rattle.sc_app.specs.declared.status.Status.{Status as AnyStatus};
 use crate::answer::Answer;
 use crate::check::answer_check;
 use crate::command::{Command, Reading, command_of};
+use crate::generate::answer_generate;
 use crate::note::write_note;
 use crate::scl::answer_scl;
 use crate::shape::answer_shape;
@@ -41,6 +43,7 @@ fn respond(alloc: Global, command: Command, input: &[u8]) -> Result<Answer, Allo
         Command::Check => answer_check(alloc, input),
         Command::Svg => answer_svg(alloc, input),
         Command::Scl { pivots } => answer_scl(alloc, pivots, input),
+        Command::Generate { seed, letters } => answer_generate(alloc, seed, letters),
     }
 }
 
@@ -204,6 +207,11 @@ pub fn run<S: Source, O: Sink, E: Sink>(
         (λ input. (text : List ℕ) × OfItsChain input (λ c. IsTooWide c pivots text) × Took (O.taken out.old) (O.taken out.new) text) }
     ensures sides { result ≡ Status.Sides → (pivots : ℕ) → IsForm (commands.Scl pivots) (bytes_of words.now.items) → IfSome (S.left source.old)
         (λ input. (text : List ℕ) × OfItsChain input (λ c. HasTooManySides c pivots text) × Took (O.taken out.old) (O.taken out.new) text) }
+    // `gen` reads nothing. Where it is done, `out` took the summary of a solution for the chain that the seed draws, by at most as many
+    // pivots as `scl` makes without a number: the value is least, and columns and pivots are those of the solution's journal. Budget,
+    // Wide and Sides come with the evidence that `scl` shows for that chain.
+    ensures generated { (seed letters : ℕ) → IsForm (commands.Generate seed letters) (bytes_of words.now.items) → IsDecided result
+        → (text : List ℕ) × GenerateResponds seed letters result text × Took (O.taken out.old) (O.taken out.new) text }
     // After a fault of `out` it has taken a part of the text of an answer.
     ensures broken { result ≡ Status.WriteFault → IfSome (input_for (bytes_of words.now.items) (S.left source.old)) (λ input.
         (status : AnyStatus) × (text : List ℕ)

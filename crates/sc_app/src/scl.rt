@@ -66,7 +66,7 @@ fn certificate_text(alloc: Global, chain: Chain, solution: Solution) -> Result<V
 }
 
 /// The answer of a solver that stopped.
-fn refused(alloc: Global, chain: &Chain, fault: SolveFault) -> Result<Answer, AllocError>
+pub fn refused(alloc: Global, chain: &Chain, fault: SolveFault) -> Result<Answer, AllocError>
     ensures { IfOk result (λ answer. IsToldBy chain.now fault (status_of answer) (text_of answer)) }
 {
     match fault {

@@ -1,4 +1,4 @@
-//! The command `scl` from bytes to bytes: certificates that `check` accepts, and refusals.
+//! The commands `scl` and `gen` from bytes to bytes: certificates that `check` accepts, summaries, and refusals.
 
 use crate::Status;
 use crate::tests::{CALM, Streams, call};
@@ -24,6 +24,10 @@ const FIRST_IS_LEFT: &[u8] =
 const SECOND_IS_LEFT: &[u8] =
     b"scallop refused budget\nwords 2\nword 1 abAB\nword 1 cdCD\npivots 1\npivot 4 0 3 2 1\n\
     improving 4 7 6 5\nend\n";
+
+/// What `gen 5 4` begins with, by the generator's published algorithm.
+const DRAWN: &[u8] =
+    b"scallop gen 5 4\nwords 2\nword 1 AbbbaBABBBBababA\nword 1 bbabaBBBBAbA\nvalue ";
 
 /// Whether a text has a part.
 fn has(text: &[u8], part: &[u8]) -> bool {
@@ -130,5 +134,14 @@ fn tells_streams_that_fail(rt: HostRuntime) -> Result<(), Fail> {
     assert_eq!(rt; status, Status::WriteFault);
     assert_eq!(rt; written.as_slice(), b"scallop ce".as_slice());
     assert_eq!(rt; noted.as_slice(), b"scallop: write fault\n".as_slice());
+
+    // `gen` doesn't ask its source, and draws the same each time.
+    let (status, first, noted) = call(rt.alloc(), "gen 5 4", b"", &unread)?;
+    assert_eq!(rt; status, Status::Done);
+    assert!(rt; noted.is_empty());
+    assert!(rt; first.starts_with(DRAWN));
+    assert!(rt; has(first.as_slice(), b"\nlength 28\ncolumns "));
+    let (_, second, _) = call(rt.alloc(), "gen 5 4", b"abAB", &CALM)?;
+    assert_eq!(rt; first.as_slice(), second.as_slice());
     Ok(())
 }

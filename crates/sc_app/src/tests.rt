@@ -240,14 +240,14 @@ fn answers_what_the_commands_say(rt: HostRuntime) -> Result<(), Fail> {
             b"".as_slice(),
             Status::Usage,
             "",
-            "scallop: usage: surface | shape | check | svg | scl [--pivots N]\n",
+            "scallop: usage: surface | shape | check | svg | scl [--pivots N] | gen SEED K\n",
         ),
         (
             "x",
             b"".as_slice(),
             Status::Usage,
             "",
-            "scallop: usage: surface | shape | check | svg | scl [--pivots N]\n",
+            "scallop: usage: surface | shape | check | svg | scl [--pivots N] | gen SEED K\n",
         ),
     ];
     for (word, input, status, out, notes) in cases {
@@ -397,6 +397,26 @@ fn knows_its_forms_and_codes(rt: HostRuntime) -> Result<(), Fail> {
         ("scl --pivots", None),
         ("scl --pivots 1 1", None),
         ("scl -pivots 1", None),
+        (
+            "gen 18446744073709551615 8",
+            Some(Command::Generate {
+                seed: 18_446_744_073_709_551_615,
+                letters: 8,
+            }),
+        ),
+        (
+            "gen 0 1",
+            Some(Command::Generate {
+                seed: 0,
+                letters: 1,
+            }),
+        ),
+        ("gen 18446744073709551616 8", None),
+        ("gen -1 4", None),
+        ("gen 05 4", None),
+        ("gen 5 0", None),
+        ("gen 5 9", None),
+        ("gen 5", None),
         ("check --pivots 1", None),
         ("check x", None),
     ];
@@ -436,7 +456,8 @@ fn code(
 
 #[test]
 fn ends_with_the_code_of_the_status(rt: HostRuntime) -> Result<(), Fail> {
-    let usage = b"scallop: usage: surface | shape | check | svg | scl [--pivots N]\n".as_slice();
+    let usage =
+        b"scallop: usage: surface | shape | check | svg | scl [--pivots N] | gen SEED K\n".as_slice();
     let report = b"vertices 1\nedges 2\neuler -1\nfraction 1/2\n".as_slice();
     let (ended, written, noted) = code(rt.alloc(), None, COMMUTATOR)?;
     assert_eq!(rt; ended, 10);

@@ -1,6 +1,6 @@
 use Rattle.std.proofs.Common.{refl}
 use Rattle.sc_app.specs.declared.status.Status.TheVariants.{Done, Budget, Wide, Sides}
-use Rattle.sc_app.specs.declared.command.Command.TheVariants.{Check, Scl}
+use Rattle.sc_app.specs.declared.command.Command.TheVariants.{Check, Scl, Generate}
 use Rattle.sc_app.proofs.Calls as calls
 use Rattle.sc_app.proofs.Least.{least, headline, solved, over_budget, too_wide, too_many_sides}
 use Rattle.sc_app.proofs.program.run.Goals as goal
@@ -73,3 +73,6 @@ pub returns-clause-sides : goal.returns-clause-sides
 returns-clause-sides g c = λ e n form.
     too_many_sides n (g.S.Source.left c.args.source.now) (g.O.Sink.taken c.args.out.now) (g.O.Sink.taken c.serve_words-status.new.out)
     (calls.told _ _ _ _ _ _ _ _ _ _ c.serve_words-status.ensures.answer (Scl n) Sides form refl e)
+
+pub returns-clause-generated : goal.returns-clause-generated
+returns-clause-generated g c = λ seed letters form decided. calls.answer_of _ _ _ _ _ _ _ _ _ _ c.serve_words-status.ensures.answer (Generate seed letters) form decided
