@@ -81,6 +81,12 @@ fn finds_the_least_values(rt: HostRuntime) -> Result<(), Fail> {
         ("-1 abAB", "1/2", "word 1 baBA\n", "end\n"),
         ("baBABAbaBabA", "5/6", "word 1 baBABAbaBabA\n", "end\n"),
         ("abABabABabABabAB", "2/1", "words 1\n", "end\n"),
+        (
+            "abABabABabABabABabABabABabABabAB",
+            "4/1",
+            "words 1\n",
+            "end\n",
+        ),
     ];
     for (input, value, first, second) in cases {
         let (certificate, verdict) = solve_and_check(rt.alloc(), "scl", input.as_bytes())?;
@@ -94,12 +100,18 @@ fn finds_the_least_values(rt: HostRuntime) -> Result<(), Fail> {
 
 #[test]
 fn solves_many_words(rt: HostRuntime) -> Result<(), Fail> {
-    let mut input = Vec::new(rt.alloc());
-    for _ in 0..8 {
-        input.extend_from_slice(b"a\nA\n")?;
+    let cases = [
+        ("a\nA\n", 16, "optimal 0/1\n"),
+        ("abAB\n", 8, "optimal 4/1\n"),
+    ];
+    for (lines, times, expected) in cases {
+        let mut input = Vec::new(rt.alloc());
+        for _ in 0..times {
+            input.extend_from_slice(lines.as_bytes())?;
+        }
+        let (_, verdict) = solve_and_check(rt.alloc(), "scl", input.as_slice())?;
+        assert_eq!(rt; verdict.as_slice(), expected.as_bytes(), "{lines}");
     }
-    let (_, verdict) = solve_and_check(rt.alloc(), "scl", input.as_slice())?;
-    assert_eq!(rt; verdict.as_slice(), b"optimal 0/1\n".as_slice());
     Ok(())
 }
 
