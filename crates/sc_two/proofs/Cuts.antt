@@ -1,0 +1,164 @@
+-- A text read line by line up to the line that separates.
+use Rattle.std.proofs.Common.{◌≡◌, ℕ, suc, ◌+◌, ◌-◌, ◌<◌, ◌≤◌, ◌⊎◌, true, false, List, [], ◌∷◌, ◌++◌, length, take, drop, get_or, Some, None, refl, sym, ◌∙◌, ap, ap₂, subst, arith, inl, inr, append_assoc}
+use Rattle.std.specs.Prelude.{position}
+use Rattle.std.specs.List.{position_or_len}
+use Rattle.std.proofs.Math.Seq.{get_or-append_seam, take-append_seam, drop-append-add, drop-cons}
+use Rattle.std.proofs.lemmas.Bool.{cases_lt, lt-ltb}
+use Rattle.std.proofs.lemmas.List.{append-nil, length-append, length-take-le, take-append-drop, get_or_append_left, get_or-take}
+use Rattle.std.proofs.lemmas.List.Sums.{position_or_len_is, fails_before_first, passes_at_first}
+use Rattle.sc_chain.specs.ChainText.{Line, is_line_feed, text_lines}
+use Rattle.sc_chain.proofs.TextLaws.{IsAt, position_some, line_before_feed, line_without_feed}
+use Rattle.sc_chain.proofs.ReadingLaws.{lines_le}
+use Rattle.sc_two.specs.TwoTexts.{is_separator}
+use Rattle.sc_two.specs.Parts.{IsWhole, IsCut, HasNone, IsPart, IsFollowed}
+
+-- ---- the first line of a text
+
+-- a line without line feeds, a line feed, and more
+line_then : (line : Line) (x : ℕ) (more : List ℕ) → ((k : ℕ) → k < length line → is_line_feed (get_or line k 0) ≡ false) → is_line_feed x ≡ true →
+    text_lines (line ++ x ∷ more) ≡ line ∷ text_lines more
+line_then line x more none feed =
+    let bs : List ℕ = line ++ x ∷ more in
+    let len : length bs ≡ length line + length (x ∷ more) = length-append line (x ∷ more) in
+    let place : position_or_len is_line_feed bs ≡ length line =
+    position_or_len_is is_line_feed bs (length line) 0 (omega (arith, len))
+    (λ k lt. ap is_line_feed (get_or_append_left line (x ∷ more) 0 k lt) ∙ none k lt)
+    (λ lt. ap is_line_feed (get_or-append_seam line x more 0) ∙ feed) in
+    let inside : position_or_len is_line_feed bs < length bs = omega (arith, place, len) in
+    let found : position is_line_feed bs ≡ Some (position_or_len is_line_feed bs) = rw (lt-ltb (position_or_len is_line_feed bs) (length bs) inside) refl in
+    line_before_feed bs (length line) (found ∙ ap (λ (n : ℕ). Some n) place)
+    ∙ ap₂ (λ (l : Line) (rest : List ℕ). l ∷ text_lines rest) (take-append_seam line (x ∷ more)) (drop-append-add line (x ∷ more) 1)
+
+pub cut_at_feed : (text : List ℕ) (e : ℕ) → position is_line_feed text ≡ Some e → IsCut text (take e text) (drop (e + 1) text)
+cut_at_feed text e h =
+    let p : IsAt is_line_feed text e = position_some is_line_feed text e h in
+    let line : Line = take e text in
+    let x : ℕ = get_or text e 0 in
+    let len : length line ≡ e = length-take-le e text (omega (arith, p.inside)) in
+    let none : (k : ℕ) → k < length line → is_line_feed (get_or line k 0) ≡ false =
+    λ k lt. ap is_line_feed (get_or-take e text k 0 (omega (arith, len, lt))) ∙ fails_before_first is_line_feed text k 0 (omega (arith, len, lt, p.at)) in
+    let found : position_or_len is_line_feed text < length text = omega (arith, p.at, p.inside) in
+    let feed : is_line_feed x ≡ true = ap (λ (n : ℕ). is_line_feed (get_or text n 0)) p.at ∙ passes_at_first is_line_feed text 0 found in
+    let next : suc e ≡ e + 1 = omega arith in
+    let after : drop e text ≡ x ∷ drop (e + 1) text = subst (λ (n : ℕ). drop e text ≡ x ∷ drop n text) next (drop-cons text e 0 p.inside) in
+    let line_is : text_lines (line ++ x ∷ []) ≡ line ∷ [] = line_then line x [] none feed in
+    record {
+      front = line ++ x ∷ [];
+      text_is = sym (take-append-drop e text) ∙ ap (λ (rest : List ℕ). line ++ rest) after ∙ sym (append_assoc line (x ∷ []) (drop (e + 1) text));
+      line_is = line_is;
+      ended = inl (λ more. ap text_lines (append_assoc line (x ∷ []) more) ∙ line_then line x more none feed ∙ ap (λ (ls : List Line). ls ++ text_lines more) (sym line_is));
+    }
+
+pub cut_without_feed : (text : List ℕ) → 0 < length text → position is_line_feed text ≡ None → IsCut text text []
+cut_without_feed text some h =
+    record {
+      front = text;
+      text_is = sym (append-nil text);
+      line_is = line_without_feed text some h;
+      ended = inr refl;
+    }
+
+-- the lines of a text that is cut
+cut_lines : (text rest : List ℕ) (line : Line) → IsCut text line rest → text_lines text ≡ line ∷ text_lines rest
+cut_lines text rest line c = elim c.ended [
+  | inl whole ↦ ap text_lines c.text_is ∙ whole rest ∙ ap (λ (ls : List Line). ls ++ text_lines rest) c.line_is
+  | inr none ↦
+      ap text_lines (c.text_is ∙ ap (λ (more : List ℕ). c.front ++ more) none ∙ append-nil c.front)
+      ∙ c.line_is ∙ ap (λ (more : List ℕ). line ∷ text_lines more) (sym none)
+]
+
+-- what is left is shorter
+pub cut_shorter : (text rest : List ℕ) (line : Line) → IsCut text line rest → length rest < length text
+cut_shorter text rest line c =
+    let some : 1 ≤ length c.front = omega (arith, lines_le c.front, ap length c.line_is) in
+    omega (arith, some, ap length c.text_is ∙ length-append c.front rest)
+
+-- ---- a text searched up to some line, none of whose lines so far separates
+
+pub record IsSearched (text rest : List ℕ) (count : ℕ) : Type 0 where
+  pub before : List ℕ
+  pub text_is : text ≡ before ++ rest
+  pub lines : text_lines text ≡ text_lines before ++ text_lines rest
+  pub count_is : count ≡ length (text_lines before)
+  pub none : HasNone (text_lines before)
+  pub ended : IsWhole before ⊎ (rest ≡ [])
+
+pub search_begins : (text : List ℕ) → IsSearched text text 0
+search_begins text =
+    record {
+      before = [];
+      text_is = refl;
+      lines = refl;
+      count_is = refl;
+      none = λ k lt. absurd (omega (arith, lt));
+      ended = inl (λ more. refl);
+    }
+
+none_more : (lines : List Line) (line : Line) → HasNone lines → is_separator line ≡ false → HasNone (lines ++ line ∷ [])
+none_more lines line none other = λ k lt. elim (cases_lt k (length lines)) [
+  | inl below ↦ ap is_separator (get_or_append_left lines (line ∷ []) [] k below) ∙ none k below
+  | inr last ↦
+      (let at : length lines ≡ k = omega (arith, last, lt, length-append lines (line ∷ [])) in
+      subst (λ (n : ℕ). is_separator (get_or (lines ++ line ∷ []) n []) ≡ false) at (ap is_separator (get_or-append_seam lines line [] []) ∙ other))
+]
+
+pub search_goes_on : (text old rest : List ℕ) (line : Line) (count : ℕ) → IsSearched text old count → IsCut old line rest → is_separator line ≡ false → IsSearched text rest (count + 1)
+search_goes_on text old rest line count s c other = elim s.ended [
+  | inr gone ↦ absurd (omega (arith, cut_shorter old rest line c, ap length gone))
+  | inl whole ↦
+      (let one : text_lines (s.before ++ c.front) ≡ text_lines s.before ++ line ∷ [] = whole c.front ∙ ap (λ (ls : List Line). text_lines s.before ++ ls) c.line_is in
+      record {
+        before = s.before ++ c.front;
+        text_is = s.text_is ∙ ap (λ (more : List ℕ). s.before ++ more) c.text_is ∙ sym (append_assoc s.before c.front rest);
+        lines =
+            s.lines ∙ ap (λ (ls : List Line). text_lines s.before ++ ls) (cut_lines old rest line c)
+            ∙ sym (append_assoc (text_lines s.before) (line ∷ []) (text_lines rest)) ∙ ap (λ (ls : List Line). ls ++ text_lines rest) (sym one);
+        count_is = omega (arith, s.count_is, ap length one ∙ length-append (text_lines s.before) (line ∷ []));
+        none = subst HasNone (sym one) (none_more (text_lines s.before) line s.none other);
+        ended = elim c.ended [
+          | inr last ↦ inr last
+          | inl more_whole ↦ inl
+              (λ more. ap text_lines (append_assoc s.before c.front more) ∙ whole (c.front ++ more)
+              ∙ ap (λ (ls : List Line). text_lines s.before ++ ls) (more_whole more)
+              ∙ sym (append_assoc (text_lines s.before) (text_lines c.front) (text_lines more))
+              ∙ ap (λ (ls : List Line). ls ++ text_lines more) (sym (whole c.front)))
+        ];
+      })
+]
+
+pub search_counts : (text rest : List ℕ) (count : ℕ) → IsSearched text rest count → count ≤ length text
+search_counts text rest count s = omega (arith, s.count_is, lines_le s.before, ap length s.text_is ∙ length-append s.before rest)
+
+-- what was searched is a part, whatever follows it
+searched : (text rest : List ℕ) (count : ℕ) (s : IsSearched text rest count) → IsPart text s.before count
+searched text rest count s =
+    record {
+      count_is = s.count_is;
+      none = s.none;
+      short = omega (arith, ap length s.text_is ∙ length-append s.before rest);
+      more = text_lines rest;
+      lines = s.lines;
+    }
+
+-- it is what stands before the rest
+searched_is : (text rest : List ℕ) (count : ℕ) (s : IsSearched text rest count) → s.before ≡ take (length text - length rest) text
+searched_is text rest count s =
+    let size : length text - length rest ≡ length s.before = omega (arith, ap length s.text_is ∙ length-append s.before rest) in
+    sym (ap₂ (λ (n : ℕ) (bs : List ℕ). take n bs) size s.text_is ∙ take-append_seam s.before rest)
+
+pub search_finds : (text old rest : List ℕ) (line : Line) (count : ℕ) → IsSearched text old count → IsCut old line rest → is_separator line ≡ true →
+    IsPart text (take (length text - length old) text) count × IsFollowed text (take (length text - length old) text) rest
+search_finds text old rest line count s c slash =
+    let followed : IsFollowed text s.before rest =
+    record {
+      line = line;
+      slash = slash;
+      lines = s.lines ∙ ap (λ (ls : List Line). text_lines s.before ++ ls) (cut_lines old rest line c);
+      short = omega (arith, cut_shorter old rest line c, ap length s.text_is ∙ length-append s.before old);
+    } in
+    subst (λ (part : List ℕ). IsPart text part count × IsFollowed text part rest) (searched_is text old count s) (searched text old count s, followed)
+
+pub search_ends : (text rest : List ℕ) (count : ℕ) → IsSearched text rest count → rest ≡ [] → IsPart text text count
+search_ends text rest count s e =
+    let all : s.before ≡ text = sym (s.text_is ∙ ap (λ (more : List ℕ). s.before ++ more) e ∙ append-nil s.before) in
+    subst (λ (part : List ℕ). IsPart text part count) all (searched text rest count s)

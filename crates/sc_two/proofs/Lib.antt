@@ -1,0 +1,4 @@
+pub mod Slashes
+pub mod Cuts
+pub mod Numbering
+pub mod Places

@@ -1,0 +1,3 @@
+pub mod TwoTexts
+pub mod Parts
+pub mod Behind
