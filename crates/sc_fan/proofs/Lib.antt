@@ -1,0 +1,6 @@
+pub mod CornerLaws
+pub mod BlockLaws
+pub mod FanLaws
+pub mod TextLaws
+pub mod Pieces
+pub mod Ranges

@@ -1,0 +1,82 @@
+-- The line of a corner.
+use Rattle.std.specs.Prelude.{ℕ, ◌+◌, ◌<◌, nat_lt, Bool, ◌&&◌, List, [], ◌∷◌, get_or, Option, Some, None, if◌then◌else◌, ℤ, pos, neg_ℤ, ◌≤ℤ◌, codes, unsigned_abs}
+use Rattle.std.specs.Option.{unwrap_or}
+use Rattle.std.specs.Int.{IsGcd}
+use Rattle.sc_whole.specs.Spelling.{spelling}
+use Rattle.sc_fraction.specs.Quotient.{quotient_text}
+use Rattle.sc_line.specs.declared.fault.Kind.{Kind}
+use Rattle.sc_line.specs.declared.fault.Kind.TheVariants.{Form, Range}
+use Rattle.sc_line.specs.Lines.{Line, Field, spaced, fields, number_of}
+use Rattle.sc_line.specs.Faults.{from_to, between, named_fault}
+use Rattle.sc_line.specs.Forms.{LineKind}
+use Rattle.sc_text.specs.ValueLines.{Quotient, quotient_of, halves, fraction_fault}
+use Rattle.sc_fan.specs.declared.limits.TheConstants.{MAX_DIRECTION, MAX_VALUE}
+use Rattle.sc_cone.specs.Fans.{Corner as PlaneCorner}
+use Rattle.sc_fan.specs.declared.corner.Corner.{Corner}
+
+-- a corner with its value as two numbers
+abbrev pub corner_said : Corner → PlaneCorner
+corner_said c = record { direction = c.direction; value = quotient_of c.value }
+
+-- the line of a corner
+abbrev pub corner_line : PlaneCorner → Line
+corner_line c = spaced (codes "corner" ∷ spelling c.direction.s ∷ spelling c.direction.t ∷ quotient_text c.value.0 c.value.1 ∷ [])
+
+-- whether two numbers are a direction: not both are 0, and the first isn't negative
+abbrev pub is_direction : ℤ → ℤ → Bool
+is_direction s t = from_to (pos 0) MAX_DIRECTION s && from_to (neg_ℤ MAX_DIRECTION) MAX_DIRECTION t && nat_lt 0 (unsigned_abs s + unsigned_abs t)
+
+-- a fault where a number besides is out of its range
+abbrev pub or_range : Option Kind → Option Kind
+or_range None = Some Range
+or_range (Some kind) = Some kind
+
+-- the fault of a direction and a fraction
+abbrev pub corner_fault : Option ℤ → Option ℤ → Option Kind → Option Kind
+corner_fault (Some s) (Some t) fault = if is_direction s t then fault else or_range fault
+corner_fault (Some s) None fault = Some Form
+corner_fault None t fault = Some Form
+
+-- the fault of a field that is due to be the value of a corner
+abbrev pub corner_value_fault : Field → Option Kind
+corner_value_fault f = fraction_fault (between 0 MAX_VALUE) (between 1 MAX_VALUE) (halves f)
+
+abbrev pub corner_fields_fault : List Field → Option Kind
+corner_fields_fault [] = Some Form
+corner_fields_fault (s ∷ []) = Some Form
+corner_fields_fault (s ∷ t ∷ []) = Some Form
+corner_fields_fault (s ∷ t ∷ f ∷ []) = corner_fault (number_of s) (number_of t) (corner_value_fault f)
+corner_fields_fault (s ∷ t ∷ f ∷ g ∷ fs) = Some Form
+
+abbrev pub corner_row : Line → Option Kind
+corner_row = named_fault (codes "corner") corner_fields_fault
+
+-- the corner in a line
+abbrev pub whole_in : ℕ → Line → ℤ
+whole_in i line = unwrap_or (number_of (get_or (fields line) i [])) (pos 0)
+
+abbrev pub half_in : ℕ → Line → ℤ
+half_in i line = unwrap_or (number_of (get_or (halves (get_or (fields line) 3 [])) i [])) (pos 0)
+
+abbrev pub corner_in : Line → PlaneCorner
+corner_in line = record { direction = record { s = whole_in 1 line; t = whole_in 2 line }; value = (half_in 0 line, half_in 1 line) }
+
+-- what the value of a corner may be
+pub record IsCornerValue (v : Quotient) : Type 0 where
+  pub num_low : pos 0 ≤ℤ v.0
+  pub num_high : v.0 ≤ℤ pos MAX_VALUE
+  pub den_low : pos 1 ≤ℤ v.1
+  pub den_high : v.1 ≤ℤ pos MAX_VALUE
+  pub lowest : IsGcd (unsigned_abs v.0) (unsigned_abs v.1) 1
+
+-- what a corner may be
+pub record IsCornerInRange (c : PlaneCorner) : Type 0 where
+  pub s_low : pos 0 ≤ℤ c.direction.s
+  pub s_high : c.direction.s ≤ℤ MAX_DIRECTION
+  pub t_low : neg_ℤ MAX_DIRECTION ≤ℤ c.direction.t
+  pub t_high : c.direction.t ≤ℤ MAX_DIRECTION
+  pub somewhere : 0 < unsigned_abs c.direction.s + unsigned_abs c.direction.t
+  pub value : IsCornerValue c.value
+
+abbrev pub a_corner : LineKind PlaneCorner
+a_corner = record { line = corner_line; fault = corner_row; value = corner_in }

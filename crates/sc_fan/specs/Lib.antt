@@ -1,0 +1,5 @@
+pub mod Corners
+pub mod Blocks
+pub mod Fans
+pub mod FanRead
+pub mod Printing

@@ -1,0 +1,27 @@
+//! Laws of fan texts.
+
+ghost use Rattle.std.specs.Prelude.{◌≡◌, ℕ, List};
+ghost use Rattle.sc_line.specs.Faults.{IsFaultless};
+ghost use Rattle.sc_line.specs.Formats.{IsLineKind};
+ghost use Rattle.sc_fan.specs.Corners.{corner_row, corner_in, corner_line, IsCornerInRange};
+ghost use Rattle.sc_fan.specs.Fans.{FanSaid, fan_text, fan_plan, IsFanInRange};
+
+/// The lines of corners without a fault are the lines of the corners in range, and tell them.
+pub fn corner_lines_are_a_kind()
+    ensures { IsLineKind corner_row corner_in corner_line IsCornerInRange }
+{}
+
+/// The text of a fan in its ranges has no fault at any line, so it is read again.
+pub fn fan_text_is_faultless()
+    ensures { (v : FanSaid) → IsFanInRange v → IsFaultless fan_plan (fan_text v) }
+{}
+
+/// A text without a fault is the text of a fan in its ranges.
+pub fn faultless_is_fan_text()
+    ensures { (text : List ℕ) → IsFaultless fan_plan text → (v : FanSaid) × IsFanInRange v × (text ≡ fan_text v) }
+{}
+
+/// No two fans in their ranges have the same text.
+pub fn fan_text_is_of_one_fan()
+    ensures { (v w : FanSaid) → IsFanInRange v → IsFanInRange w → fan_text v ≡ fan_text w → v ≡ w }
+{}
