@@ -4,3 +4,5 @@ pub mod FanLaws
 pub mod TextLaws
 pub mod Pieces
 pub mod Ranges
+pub mod ReadingLaws
+pub mod ReaderLaws

@@ -101,10 +101,17 @@ edges_in_range f h =
       fit = All-from_recursion _ (enumerate_from 0 f.edges.items) (lists_fit f.first f.second f.corners.items 0 f.edges.items h.lists);
     }
 
+-- a corner, and the pairs of the edge that goes from it
+pub corner_at : (corners : List Corner) (i : ℕ) (corner : Corner) → i < length corners → corner ≡ get_or corners i corner → corner_said corner ≡ get_or (map corner_said corners) i no_corner
+corner_at corners i corner below is = ap corner_said is ∙ sym (get_or-map corner_said corners i corner no_corner below)
+
+pub pairs_at : (upper lower : Pairs) (corners : List Corner) (i : ℕ) (corner : Corner) (ps : Pairs) → i < length corners → corner ≡ get_or corners i corner → ps ≡ pairs_in (quadrant_from corner.direction.t) upper lower → ps ≡ edge_pairs upper lower corners i
+pairs_at upper lower corners i corner ps below is ps_is = ps_is ∙ ap (λ (c : PlaneCorner). pairs_in (quadrant_from c.direction.t) upper lower) (corner_at corners i corner below is)
+
 -- the piece of an edge, and what fits it
 module _ (upper lower : Pairs) (corners : List Corner) (edges : List Edge) (i : ℕ) (corner : Corner) (edge : Edge) (ps : Pairs) (inside : i < length edges) (below : i < length corners) (corner_is : corner ≡ get_or corners i corner) (edge_is : edge ≡ get_or edges i edge) (ps_is : ps ≡ pairs_in (quadrant_from corner.direction.t) upper lower) where
   pairs_are : ps ≡ edge_pairs upper lower corners i
-  pairs_are = ps_is ∙ ap (λ (c : PlaneCorner). pairs_in (quadrant_from c.direction.t) upper lower) (ap corner_said corner_is ∙ sym (get_or-map corner_said corners i corner no_corner below))
+  pairs_are = pairs_at upper lower corners i corner ps below corner_is ps_is
 
   at : get_or (enumerate_from 0 edges) i (0, edge) ≡ (i, edge)
   at =

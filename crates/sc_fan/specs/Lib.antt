@@ -3,3 +3,6 @@ pub mod Blocks
 pub mod Fans
 pub mod FanRead
 pub mod Printing
+pub mod Reading
+pub mod EdgesRead
+pub mod FanReader

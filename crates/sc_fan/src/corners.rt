@@ -1,6 +1,6 @@
 //! The line of a corner.
 
-ghost use Rattle.std.specs.Prelude.{◌≡◌, ◌≤◌, ◌++◌, ℤ, pos, true, false, None, Some, IfOk, IfErr, OnOk, OnErr};
+ghost use Rattle.std.specs.Prelude.{◌≡◌, ◌≤◌, ◌++◌, ℤ, pos, true, false, Some, IfOk, IfErr, OnOk, OnErr};
 ghost use Rattle.sc_line.specs.declared.fault.Kind.TheVariants as kinds;
 ghost use Rattle.sc_line.specs.Lines.{ended, IsNarrowed};
 ghost use Rattle.sc_line.specs.Printing.{AppendsPart};

@@ -206,8 +206,8 @@ impl Fan {
         }
     }
 
-    /// Appends the text of the fan. Each edge is to have the directions and the values of the corners that it goes from and
-    /// to, which its lines don't repeat. Where memory runs out, a part of the text was appended.
+    /// Appends the text of the fan. Each edge is to have the directions and the values of the corners that it goes from
+    /// and to, which its lines don't repeat. Where memory runs out, a front of the text was appended.
     pub fn print(&self, out: &mut Vec<u8>) -> Result<(), AllocError>
         requires { IsFanInRange (fan_said self.now) }
         ensures ok { OnOk result (out.new.items ≡ out.old.items ++ fan_text (fan_said self.now)) }

@@ -1,6 +1,6 @@
 //! The two quadrants: the inverse pairs of their chains, and the quadrant of an edge.
 
-ghost use Rattle.std.specs.Prelude.{◌≡◌, ◌++◌, map, IfOk, OnOk};
+ghost use Rattle.std.specs.Prelude.{◌≡◌, ◌++◌, IfOk, OnOk};
 ghost use Rattle.sc_theory.specs.Prices.{pairs as pairs_of};
 ghost use Rattle.sc_text.specs.Surfaces.{IsChainInRange};
 ghost use Rattle.sc_cone.specs.Cones.{inverses, second_words, quadrant_chain};

@@ -1,0 +1,90 @@
+//! The chains of a fan text.
+
+ghost use Rattle.std.specs.Prelude.{◌≡◌, ◌≤◌, ◌-◌, true, IfErr, IfOk};
+ghost use Rattle.sc_theory.specs.Chains.{positions};
+ghost use Rattle.sc_chain.specs.declared.limits.TheConstants.{MAX_POSITIONS, MAX_WORDS};
+ghost use Rattle.sc_line.specs.declared.fault.TextFault.TheVariants as text_faults;
+ghost use Rattle.sc_line.specs.Lines.{lacks};
+ghost use Rattle.sc_text.specs.Words.{a_word};
+ghost use Rattle.sc_text.specs.Surfaces.{IsChainInRange};
+ghost use Rattle.sc_fan.specs.Fans.{chain_due};
+ghost use Rattle.sc_fan.specs.Reading.{taken, Gives};
+
+use crate::lines::Lines;
+use sc_chain::{Chain, ChainFault, Word};
+use sc_line::{LineFault, LineItem, NumberedItem, TextFault};
+use sc_text::WordLines;
+use std::alloc::Global;
+
+// The lines of so many words, which may have so many letters together.
+#[derive(Drop)]
+struct Words {
+    count: usize,
+    letters: usize,
+}
+
+impl NumberedItem for Words {
+    type Context = ();
+
+    type Value = (u32, Word);
+
+    ghost kind = { λ k c before. a_word (k.letters - positions before) };
+
+    ghost count_of = { λ k c. k.count };
+
+    fn count(&self, _context: &()) -> usize {
+        self.count
+    }
+
+    fn read(
+        &self,
+        alloc: Global,
+        line: &[u8],
+        before: &[(u32, Word)],
+        context: &(),
+    ) -> Result<(u32, Word), LineFault> {
+        let words = WordLines {
+            letters: self.letters,
+        };
+        words.read(alloc, line, before, context)
+    }
+}
+
+// The chain of words that a text may hold.
+fn chain_of(alloc: Global, words: Vec<(u32, Word)>) -> Result<Chain, TextFault>
+    requires { IsChainInRange words.items }
+    ensures ok { IfOk result (λ chain. chain ≡ words.items) }
+    ensures err { IfErr result (λ e. e ≡ text_faults.Memory) }
+{
+    match Chain::of_reduced(alloc, words) {
+        Ok(chain) => Ok(chain),
+        Err(fault) => match fault {
+            ChainFault::Memory => Err(TextFault::Memory),
+            _ => unreachable!(),
+        },
+    }
+}
+
+/// The chain under a name, of at most so many words and letters.
+pub(crate) fn read_chain(
+    alloc: Global,
+    lines: &mut Lines,
+    name: &[u8],
+    words: usize,
+    letters: usize,
+) -> Result<Chain, TextFault>
+    requires few_words { words ≤ MAX_WORDS }
+    requires few_letters { letters ≤ MAX_POSITIONS }
+    requires named { lacks 32 name.now ≡ true }
+    requires unended { lacks 10 name.now ≡ true }
+    ensures { Gives (λ chain. (chain, lines.new)) result (taken (chain_due name.now words letters) lines.old) }
+{
+    let count = lines.count(name, 0, words as u64)?;
+    let kind = Words {
+        count: count as usize,
+        letters,
+    };
+    let words = lines.items(alloc, &kind, &())?;
+    let chain = chain_of(alloc, words)?;
+    Ok(chain)
+}
