@@ -1,0 +1,8 @@
+use Rattle.sc_chain.proofs.WordLists.{AreFew}
+use Rattle.sc_ball.proofs.tests.words_of.Given as goal
+
+abbrev pub invariant-loop-part : goal.invariant-loop-part
+invariant-loop-part l =
+    (goal.iterator-loop-part).can_next l.part-iterator ×
+    (goal.iterator-loop-part).is_finite l.part-iterator ×
+    AreFew l.words.items
