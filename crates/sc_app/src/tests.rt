@@ -88,7 +88,7 @@ pub(crate) fn call(
     );
     let mut out = MemorySink::new(
         alloc,
-        100_000,
+        200_000,
         usize::from(streams.write_piece),
         streams.write_fails.to_vec(alloc)?,
     )?;
