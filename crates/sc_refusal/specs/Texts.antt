@@ -22,17 +22,32 @@ walk_line name walk = spaced (name ∷ map (λ i. spelling (pos i)) walk)
 abbrev pub number_line : Field → ℤ → Line
 number_line name z = numbers_line name (z ∷ [])
 
--- ---- what every refusal's text has: its heading, the chain and the journal, then the lines of its cause, and the end
-abbrev pub front_lines : Line → Chain → List Pivot → List Line
-front_lines heading c journal = heading ∷ (words_lines c ++ journal_lines journal)
+-- ---- what every refusal's text has: its heading, and its body with the chain and the journal, the lines of its cause, and the
+-- end
+abbrev pub solved_lines : Chain → List Pivot → List Line
+solved_lines c journal = words_lines c ++ journal_lines journal
 
-abbrev pub refusal_text : Line → Chain → List Pivot → List Line → List ℕ
-refusal_text heading c journal cause = text_of (front_lines heading c journal ++ (cause ++ ending ∷ []))
+abbrev pub body_lines : Chain → List Pivot → List Line → List Line
+body_lines c journal cause = solved_lines c journal ++ (cause ++ ending ∷ [])
+
+abbrev pub headed_text : Line → List Line → List ℕ
+headed_text heading body = text_of (heading ∷ body)
+
+abbrev pub budget_heading : Line
+budget_heading = codes "scallop refused budget"
+
+abbrev pub wide_heading : Line
+wide_heading = codes "scallop refused wide"
+
+abbrev pub sides_heading : Line
+sides_heading = codes "scallop refused sides"
 
 -- ---- the pivots are used up, and a polygon improves still
+abbrev pub budget_body : Chain → List Pivot → List ℕ → List Line
+budget_body c journal improving = body_lines c journal (walk_line (codes "improving") improving ∷ [])
+
 abbrev pub budget_text : Chain → List Pivot → List ℕ → List ℕ
-budget_text c journal improving =
-    refusal_text (codes "scallop refused budget") c journal (walk_line (codes "improving") improving ∷ [])
+budget_text c journal improving = headed_text budget_heading (budget_body c journal improving)
 
 -- ---- an operation is too wide
 -- the line of a walk, where one is told, and that of a row
@@ -56,8 +71,11 @@ wide_lines at =
     ++ (told_row (codes "leaving") at.leaving
     ++ (told_walk (codes "walk") (option_map vec_items at.walk) ++ operation_lines at))
 
+abbrev pub wide_body : Chain → List Pivot → WideAt → List Line
+wide_body c journal at = body_lines c journal (wide_lines at)
+
 abbrev pub wide_text : Chain → List Pivot → WideAt → List ℕ
-wide_text c journal at = refusal_text (codes "scallop refused wide") c journal (wide_lines at)
+wide_text c journal at = headed_text wide_heading (wide_body c journal at)
 
 -- ---- the glued surface would have too many sides
 -- the value of a part, the least common multiple of the denominators before it, its own denominator, and the weighted length
@@ -70,7 +88,9 @@ multiple_lines value so_far next length =
     ∷ count_line (codes "length") length
     ∷ []
 
+abbrev pub sides_body : Chain → List Pivot → List ℕ → Frac → ℕ → ℤ → List Line
+sides_body c journal part value so_far next =
+    body_lines c journal (walk_line (codes "part") part ∷ multiple_lines value so_far next (weighted_length c))
+
 abbrev pub sides_text : Chain → List Pivot → List ℕ → Frac → ℕ → ℤ → List ℕ
-sides_text c journal part value so_far next =
-    refusal_text (codes "scallop refused sides") c journal
-    (walk_line (codes "part") part ∷ multiple_lines value so_far next (weighted_length c))
+sides_text c journal part value so_far next = headed_text sides_heading (sides_body c journal part value so_far next)

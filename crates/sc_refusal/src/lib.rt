@@ -6,7 +6,9 @@ mod lines;
 mod places;
 mod texts;
 
-pub use texts::{budget_text, sides_text, wide_text};
+pub use texts::{
+    budget_text, print_budget_body, print_sides_body, print_wide_body, sides_text, wide_text,
+};
 
 #[cfg(test)]
 mod tests;

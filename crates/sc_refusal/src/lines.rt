@@ -103,16 +103,14 @@ fn entries_of(chain: &Chain) -> &[(u32, Word)]
     entries
 }
 
-/// Appends what every refusal's text begins with: its heading, the chain and the journal.
-pub(crate) fn print_front(
-    heading: &[u8],
+/// Appends what the body of every refusal's text begins with: the chain and the journal.
+pub(crate) fn print_solved(
     chain: &Chain,
     journal: &[Pivot],
     out: &mut Vec<u8>,
 ) -> Result<(), AllocError>
-    ensures { OnOk result (out.new.items ≡ out.old.items ++ text_of (texts.front_lines heading.now chain.now journal.now)) }
+    ensures { OnOk result (out.new.items ≡ out.old.items ++ text_of (texts.solved_lines chain.now journal.now)) }
 {
-    print_line(heading, &[], out)?;
     print_words(entries_of(chain), out)?;
     print_journal(journal, out)
 }

@@ -2,7 +2,7 @@ use Rattle.std.proofs.Common.{◌<◌, All, subst, sym}
 use Rattle.sc_theory.specs.Chains.{Chain}
 use Rattle.sc_chain.specs.declared.limits.TheConstants.{GENERATORS}
 use Rattle.sc_fatgraph.proofs.TextRanges.{spellable}
-use Rattle.sc_refusal.proofs.lines.print_front.Goals as goal
+use Rattle.sc_refusal.proofs.lines.print_solved.Goals as goal
 
 pub print_words-requires : goal.print_words-requires
 print_words-requires c =
