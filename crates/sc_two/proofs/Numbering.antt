@@ -4,10 +4,13 @@ use Rattle.std.specs.List.{All}
 use Rattle.std.proofs.Math.Seq.{take-length}
 use Rattle.std.proofs.Math.ListN.{drop_of_length-le}
 use Rattle.std.proofs.lemmas.List.{append-nil, map-append, length-map}
+use Rattle.std.proofs.lemmas.List.Sums.{sum_by-cons}
 use Rattle.std.proofs.lemmas.List.Elements.{All-nil, All-push, All-append}
 use Rattle.sc_chain.specs.declared.lines.RawLine.{RawLine}
 use Rattle.sc_chain.specs.ChainText.{Line, Entry, text_lines, line_case, raw_line, raw_lines, IsChainText, IsRawLine}
 use Rattle.sc_chain.proofs.ReadingLaws.{lines_le, raw_lines_in_range}
+use Rattle.sc_reduce.specs.Lines.{letters_of}
+use Rattle.sc_reduce.proofs.TextLetters.{letters_of_text}
 use Rattle.sc_two.specs.Behind.{moved, HasRoom, AreLinesBehind}
 
 moved_line : (by n : ℕ) (o : Option Entry) → map (moved by) (raw_line n o) ≡ raw_line (n + by) o
@@ -42,6 +45,12 @@ room_for by text read g h =
     let below : All (IsBelow top) read = subst (All (IsBelow top)) (sym g.entries) (lines_below 1 top (text_lines text) (omega arith)) in
     λ k d inside. omega (arith, below k d inside, lines_le text, h)
 
+-- the words stay as they are
+letters_moved : (by : ℕ) (read : List RawLine) → letters_of (map (moved by) read) ≡ letters_of read
+letters_moved by [] = refl
+letters_moved by (l ∷ read) =
+    omega (arith, letters_moved by read, sum_by-cons (λ (r : RawLine). length r.word) l read, sum_by-cons (λ (r : RawLine). length r.word) (moved by l) (map (moved by) read))
+
 pub numbered : (by : ℕ) (text : List ℕ) (read new : List RawLine) → IsChainText text read → new ≡ map (moved by) read → AreLinesBehind by text new
 numbered by text read new g e =
     let entries : new ≡ raw_lines (suc by) (text_lines text) = e ∙ ap (map (moved by)) g.entries ∙ moved_lines by 1 (text_lines text) ∙ ap (λ (k : ℕ). raw_lines k (text_lines text)) (omega arith) in
@@ -49,6 +58,7 @@ numbered by text read new g e =
       cases = g.cases;
       entries = entries;
       ranges = subst (All IsRawLine) (sym entries) (raw_lines_in_range (suc by) (text_lines text));
+      letters = omega (arith, letters_of_text text read g, letters_moved by read, ap letters_of e);
     }
 
 -- a list that was written in place, as the vector has it then

@@ -5,6 +5,7 @@ use Rattle.sc_line.specs.declared.fault.Kind.{Kind}
 use Rattle.sc_line.specs.declared.fault.TextFault.{TextFault}
 use Rattle.sc_line.specs.declared.fault.TextFault.TheVariants.{Malformed, Memory}
 use Rattle.sc_chain.specs.declared.lines.RawLine.{RawLine}
+use Rattle.sc_reduce.specs.Lines.{letters_of}
 use Rattle.sc_chain.specs.ChainText.{text_lines, line_at, line_case, raw_lines, IsRawLine, IsFirstMalformed}
 
 -- a line that was read, numbered on
@@ -19,6 +20,7 @@ pub record AreLinesBehind (count : ℕ) (text : List ℕ) (read : List RawLine) 
   pub cases : (n : ℕ) → 1 ≤ n → n ≤ length (text_lines text) → IsSome (line_case (line_at text n))
   pub entries : read ≡ raw_lines (suc count) (text_lines text)
   pub ranges : All IsRawLine read
+  pub letters : letters_of read ≤ length text
 
 -- the first malformed line of a chain text, numbered behind so many others
 pub record IsMalformedBehind (count : ℕ) (text : List ℕ) (line : ℕ) (kind : Kind) : Type 0 where

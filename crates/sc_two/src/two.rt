@@ -1,9 +1,10 @@
 //! The lines of two chains.
 
-ghost use Rattle.std.specs.Prelude.{◌≡◌, ◌+◌, ◌<◌, ◌^◌, ◌⊎◌, ℕ, length, map, IfOk, IsErrOf, MatchResult};
+ghost use Rattle.std.specs.Prelude.{◌≡◌, ◌+◌, ◌<◌, ◌≤◌, ◌^◌, ◌⊎◌, ℕ, length, map, IfOk, IsErrOf, MatchResult};
 ghost use Rattle.std.specs.List.{All};
 ghost use Rattle.sc_line.specs.declared.fault.Kind.{Kind as AnyKind};
 ghost use Rattle.sc_chain.specs.ChainText.{IsRawLine};
+ghost use Rattle.sc_reduce.specs.Lines.{letters_of};
 ghost use Rattle.sc_two.specs.TwoTexts.{IsTwoText, IsFirstWrong};
 ghost use Rattle.sc_two.specs.Behind.{HasRoom, moved, AreLinesBehind, IsFaultBehind};
 
@@ -46,6 +47,7 @@ pub fn read_two(alloc: Global, bytes: &[u8]) -> Result<(Vec<RawLine>, Vec<RawLin
     requires { length bytes.now < 2 ^ 31 }
     ensures ok { IfOk result (λ two. IsTwoText bytes.now two.0.items two.1.items) }
     ensures ranges { IfOk result (λ two. All IsRawLine two.0.items × All IsRawLine two.1.items) }
+    ensures letters { IfOk result (λ two. letters_of two.0.items + letters_of two.1.items ≤ length bytes.now) }
     ensures malformed { (line : ℕ) (kind : AnyKind) →
         IsErrOf result (TextFault.Malformed line kind) → IsFirstWrong bytes.now line kind }
     ensures refused { (line : ℕ) (kind : AnyKind) →

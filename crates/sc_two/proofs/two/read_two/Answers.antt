@@ -1,8 +1,9 @@
-use Rattle.std.proofs.Common.{◌≡◌, arith, subst, sym, List, ℕ, refl}
+use Rattle.std.proofs.Common.{◌≡◌, ◌+◌, arith, subst, sym, List, ℕ, refl}
 use Rattle.std.proofs.lemmas.Result.{err_from_is_err_and}
 use Rattle.sc_chain.proofs.ReadingLaws.{lines_le}
 use Rattle.sc_two.specs.TwoTexts.{IsTwoText}
 use Rattle.sc_two.specs.Parts.{IsPart, IsFollowed}
+use Rattle.sc_two.specs.Behind.{AreLinesBehind}
 use Rattle.sc_two.proofs.Places.{IsFault, before, followed_by, whole_if_none, none_separates, separates_again, two_parts, good_or_wrong, fault_in_front, fault_in_back, malformed_of, refused_of}
 use Rattle.sc_two.proofs.two.read_two.Goals as goal
 
@@ -98,6 +99,17 @@ returns-in-None-clause-ok c =
     let whole : second ≡ rest = whole_if_none rest second c.first_part-second.result.rest c.in-None.is c.first_part-second.ensures.rest in
     two_parts c.args.bytes.now first rest second c.first_part-first.result.count c.in_ok-first_lines.first_lines.items c.in_ok-second_lines.second_lines.items
     (before c.args.bytes.now first rest c.first_part-first.result.count c.first_part-first.ensures.part followed) c.in_ok-first_lines.ensures whole c.in_ok-second_lines.ensures
+
+pub returns-in-None-clause-letters : goal.returns-in-None-clause-letters
+returns-in-None-clause-letters c =
+    let first : List ℕ = c.first_part-first.result.text.now in
+    let rest : List ℕ = c.in-Some.rest.now in
+    let second : List ℕ = c.first_part-second.result.text.now in
+    let followed : IsFollowed c.args.bytes.now first rest = followed_by c.args.bytes.now first c.first_part-first.result.rest c.in-Some.rest c.in-Some.is c.first_part-first.ensures.rest in
+    let part : IsPart rest second c.first_part-second.result.count = c.first_part-second.ensures.part in
+    let first_read : AreLinesBehind 0 first c.in_ok-first_lines.first_lines.items = c.in_ok-first_lines.ensures in
+    let second_read : AreLinesBehind (c.first_part-first.result.count + 1) second c.in_ok-second_lines.second_lines.items = c.in_ok-second_lines.ensures in
+    omega (arith, followed.short, part.short, first_read.letters, second_read.letters)
 
 pub returns-in-None-clause-refused : goal.returns-in-None-clause-refused
 returns-in-None-clause-refused c =
