@@ -3,7 +3,7 @@ use Rattle.std.proofs.Common.{◌≡◌, ◌⊎◌, ℕ, zero, suc, ◌+◌, ◌
 use Rattle.std.specs.Prelude.{All}
 use Rattle.std.specs.List.{insert, AllByRecursion}
 use Rattle.std.proofs.lemmas.List.{length-map}
-use Rattle.std.proofs.lemmas.List.Elements.{All-nil, All-cons, All-get_or, recursion_from_All}
+use Rattle.std.proofs.lemmas.List.Elements.{All-nil, All-cons, All-get_or, All-map, recursion_from_All}
 use Rattle.sc_theory.specs.Chains.{Chain, IsChain, weighted_length}
 use Rattle.sc_chain.specs.Faults.{IsSmallChain}
 use Rattle.sc_chain.specs.declared.limits.TheConstants.{MAX_LENGTH}
@@ -19,16 +19,17 @@ use Rattle.sc_cone.proofs.EmptyChains.{first_has_length, second_has_length}
 use Rattle.sc_crossing.specs.declared.reached.Reached.{Reached as ReachedParts}
 use Rattle.sc_crossing.specs.Lengths.{IsLight}
 use Rattle.sc_crossing.specs.Neighbours.{reached_of}
+use Rattle.sc_fan.specs.Fans.{IsListFor}
 use Rattle.sc_solve.specs.declared.solution.SolveFault.{SolveFault}
 use Rattle.sc_solve.specs.Solutions.{IsStopped}
-use Rattle.sc_cone.specs.Cones.{chain_of}
+use Rattle.sc_cone.specs.Cones.{chain_of, quadrant_chain}
 use Rattle.sc_ball.specs.declared.fault.BallFault.{BallFault}
 use Rattle.sc_ball.specs.declared.solved.Solved.{Solved}
 use Rattle.sc_ball.specs.declared.searching.Stop.{Stop}
 use Rattle.sc_ball.specs.Neighbours.{IsClosed}
 use Rattle.sc_ball.specs.Solved.{seen, IsSmall, IsSolvedIn}
 use Rattle.sc_ball.specs.Searched.{entries_of, IsSearchedTo, IsEntryBetween, IsStopBetween}
-use Rattle.sc_ball.specs.Faults.{AreOpenIn, IsDue, IsUnsolved, IsBallFault, is_memory}
+use Rattle.sc_ball.specs.Faults.{HaveListsFor, AreOpenIn, IsDue, IsUnsolved, IsBallFault, is_memory}
 use Rattle.sc_ball.specs.Halves.{most_entries}
 use Rattle.sc_ball.proofs.EntryLists.{reached_at, map-insert, closed_before, closed_further, All-insert}
 
@@ -93,6 +94,9 @@ module _ (q : Quadrant) (first second : Chain) where
   -- what holds of each solved direction, by its number
   pub entry_has : (Q : Reached → Type 0) → ((s : Solved) → IsSolvedIn q first second s → Q (seen s)) → (entries : List Solved) → All (IsSolvedIn q first second) entries → (i : ℕ) → i < length entries → Q (reached (entries_of entries) i)
   entry_has Q h entries all i inside = each_at seen (IsSolvedIn q first second) Q h entries (recursion_from_All (IsSolvedIn q first second) entries all) i inside
+
+  lists_of : (entries : List Solved) → All (IsSolvedIn q first second) entries → HaveListsFor q first second (entries_of entries)
+  lists_of entries all = All-map (λ (r : Reached). IsListFor (quadrant_chain q first second) r.list) seen entries (λ i none inside. (all i none inside).list)
 
   pub searched_ends : (one other : Solved) → one.reached.direction ≡ first_end q → other.reached.direction ≡ last_end q → IsSolvedIn q first second one → IsSolvedIn q first second other → IsSearchedTo q first second (one ∷ other ∷ []) 1
   searched_ends one other from to is_one is_other = record {
@@ -169,6 +173,7 @@ module _ (q : Quadrant) (first second : Chain) where
           tells
           (record {
             search = subst (IsSearch q first second) (sym same) so_far.search;
+            lists = subst (HaveListsFor q first second) (sym same) (lists_of entries so_far.solved);
             inside = subst (λ (rs : List Reached). suc place < length rs) (sym same) mapped_inside;
             opened = subst₂ (IsOpen q first second) (sym at_place) (sym at_next) opened;
           })

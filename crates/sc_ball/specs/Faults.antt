@@ -1,26 +1,32 @@
 -- What stops the search for the corners of a quadrant.
-use Rattle.std.specs.Prelude.{◌≡◌, ◌⊎◌, ℕ, suc, ◌<◌, Bool, true, false, List, [], ◌∷◌, map, length}
+use Rattle.std.specs.Prelude.{◌≡◌, ◌⊎◌, ℕ, suc, ◌<◌, Bool, true, false, List, [], ◌∷◌, map, length, All}
 use Rattle.sc_theory.specs.Chains.{Chain}
 use Rattle.sc_cone.specs.declared.Direction.{Direction}
 use Rattle.sc_cone.specs.declared.Quadrant.{Quadrant}
 use Rattle.sc_cone.specs.declared.Quadrant.TheVariants.{Lower, Upper}
 use Rattle.sc_cone.specs.Directions.{first_end, last_end}
-use Rattle.sc_cone.specs.Cones.{chain_of}
+use Rattle.sc_cone.specs.Cones.{chain_of, quadrant_chain}
 use Rattle.sc_cone.specs.Searches.{Reached, reached, IsOpen, IsNext, IsSearch}
 use Rattle.sc_crossing.specs.declared.fault.NextFault.{NextFault}
 use Rattle.sc_crossing.specs.declared.fault.NextFault.TheVariants as next_faults
 use Rattle.sc_crossing.specs.Lengths.{IsLight}
 use Rattle.sc_crossing.specs.Neighbours.{reached_of}
 use Rattle.sc_crossing.specs.Forms.{IsNextFault}
+use Rattle.sc_fan.specs.Fans.{IsListFor}
 use Rattle.sc_solve.specs.declared.solution.SolveFault.{SolveFault}
 use Rattle.sc_solve.specs.declared.solution.SolveFault.TheVariants as solve_faults
 use Rattle.sc_solve.specs.Solutions.{IsStopped}
 use Rattle.sc_ball.specs.declared.fault.BallFault.{BallFault}
 use Rattle.sc_ball.specs.declared.fault.BallFault.TheVariants.{Solve, Cross, Length, Memory}
 
+-- each entry's list is one for the quadrant's chain: a price for each word and each pair, in range
+abbrev pub HaveListsFor : Quadrant → Chain → Chain → List Reached → Type 0
+HaveListsFor q first second rs = All (λ (r : Reached). IsListFor (quadrant_chain q first second) r.list) rs
+
 -- two neighbours of a search, its entries number i and i + 1, whose lists are each not tight at the other's direction
 pub record AreOpenIn (q : Quadrant) (first second : Chain) (rs : List Reached) (i : ℕ) : Type 0 where
   pub search : IsSearch q first second rs
+  pub lists : HaveListsFor q first second rs
   pub inside : suc i < length rs
   pub opened : IsOpen q first second (reached rs i) (reached rs (suc i))
 
