@@ -1,5 +1,5 @@
 //! One new row or price list by the rule with a ratio in lowest terms.
-ghost use Rattle.std.specs.Prelude.{◌≡◌, ◌<◌, ◌^◌, length, pos, ◌*ℤ◌, ◌<ℤ◌, IfOk, IfErr};
+ghost use Rattle.std.specs.Prelude.{◌≡◌, ◌<◌, ◌^◌, true, length, pos, ◌*ℤ◌, ◌<ℤ◌, IfOk, IfErr, OnOk};
 ghost use Rattle.sc_basis.specs.Products.{at};
 ghost use Rattle.sc_rows.specs.Places.{IsWide, IsWideBy};
 ghost use Rattle.sc_rows.specs.Updates.{join_op, joined, left_spot, right_spot, join_spot, scale_spot, IsUpdated, IsWideEntry, IsWideUpdate, AreJoined, IsWideAmong};
@@ -106,21 +106,47 @@ impl Update {
     }
 }
 
-/// The entry at an index. Where both numbers are 0 there is nothing to do.
+/// Whether an entry stays as it is: the leaving row has nothing there, and the ratio's denominator changes nothing.
+fn stays(ratio: Ratio, x: i128, t: i128) -> bool
+    ensures { result ≡ true → (u : Update) → joined u (x *ℤ ratio.den) (ratio.num *ℤ t) ≡ x }
+{
+    t == 0 && (x == 0 || ratio.den == 1)
+}
+
+/// The entry at an index.
 fn new_entry(update: Update, index: u32, ratio: Ratio, x: i128, t: i128) -> Result<i128, WideAt>
     ensures value { IfOk result (λ z. z ≡ joined update (x *ℤ ratio.den) (ratio.num *ℤ t)) }
     ensures evidence { IfErr result (IsWideEntry update index x t ratio.den ratio.num) }
 {
-    if x == 0 && t == 0 {
-        return Ok(0);
-    }
     let left = multiply(update.left_spot(index), x, ratio.den)?;
     let right = multiply(update.right_spot(index), ratio.num, t)?;
     let joined = update.join(index, left, right)?;
     Ok(joined)
 }
 
-/// All entries.
+/// Makes those entries anew that don't stay.
+fn change_entries(
+    update: Update,
+    ratio: Ratio,
+    entries: &mut [i128],
+    left: &[i128],
+) -> Result<(), WideAt>
+    requires few { length entries.old < 2 ^ 32 }
+    requires same { length left.now ≡ length entries.old }
+    ensures entries { OnOk result (AreJoined update (length entries.old) (at entries.old) (at left.now) ratio.den ratio.num (at entries.new)) }
+    ensures evidence { IfErr result (IsWideAmong update (length entries.old) (at entries.old) (at left.now) ratio.den ratio.num) }
+{
+    for index in 0..left.len() {
+        let (x, t) = (entries[index], left[index]);
+        if !stays(ratio, x, t) {
+            let entry = new_entry(update, index as u32, ratio, x, t)?;
+            entries[index] = entry;
+        }
+    }
+    Ok(())
+}
+
+/// All entries. Most of them stay, since few entries of a row aren't 0.
 fn new_entries(
     alloc: Global,
     update: Update,
@@ -134,10 +160,8 @@ fn new_entries(
     ensures entries { IfOk result (λ new. AreJoined update (length list.now) (at list.now) (at left.now) ratio.den ratio.num (at new.items)) }
     ensures evidence { IfErr result (IsWideBy (IsWideAmong update (length list.now) (at list.now) (at left.now) ratio.den ratio.num)) }
 {
-    let mut entries = Vec::with_capacity(alloc, list.len())?;
-    for index in 0..list.len() {
-        entries.push(new_entry(update, index as u32, ratio, list[index], left[index])?)?;
-    }
+    let mut entries = Vec::from_slice(alloc, list)?;
+    change_entries(update, ratio, entries.as_mut_slice(), left)?;
     Ok(entries)
 }
 
