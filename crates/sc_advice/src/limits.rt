@@ -24,8 +24,11 @@ pub(crate) const RETREATS: u32 = 20;
 /// The sides of a surface that the search for a good one takes, at most.
 pub(crate) const MAX_SIDES: u64 = 600;
 
-/// The exchanges of mates that the search for a good surface tries.
-pub(crate) const SWAPS: u32 = 200_000;
+/// The exchanges of mates that the search for a good surface tries for each of its sides, ..
+pub(crate) const SWAPS_A_SIDE: u32 = 1000;
+
+/// .. and in all, at most.
+pub(crate) const MAX_SWAPS: u32 = 200_000;
 
 /// The exchanges that are held back before the inverse has them.
 pub(crate) const HELD_EXCHANGES: usize = 6;

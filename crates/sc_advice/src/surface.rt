@@ -5,7 +5,7 @@ ghost use Rattle.std.specs.Prelude.{◌<◌};
 ghost use Rattle.sc_theory.specs.Chains.{positions};
 
 use crate::cycles::cycles_of;
-use crate::limits::{MAX_SIDES, SWAPS};
+use crate::limits::{MAX_SIDES, MAX_SWAPS, SWAPS_A_SIDE};
 use crate::orbits::{are_together, image, orbits, swap_images};
 use sc_chain::Chain;
 use sc_chain::limits::GENERATORS;
@@ -221,10 +221,18 @@ impl Surface {
         }
     }
 
-    /// Tries `SWAPS` exchanges of mates.
+    /// How many exchanges of mates are tried.
+    fn swaps(&self) -> u32 {
+        u32::try_from(self.sides.positions.len())
+            .unwrap_or(u32::MAX)
+            .saturating_mul(SWAPS_A_SIDE)
+            .min(MAX_SWAPS)
+    }
+
+    /// Tries exchanges of mates.
     fn improve(&mut self) {
         let mut draw = Draw { state: FIRST_DRAWN };
-        for _swap in 0..SWAPS {
+        for _swap in 0..self.swaps() {
             if let Some((side, other)) = self.draw_sides(&mut draw) {
                 self.exchange_mates(side, other);
             }
