@@ -80,14 +80,14 @@ pub(crate) fn units(alloc: Global, rows: usize) -> Result<Vec<Vec<i64>>, AllocEr
 /// Adds a list to another.
 fn add_list(sum: &mut [i64], list: &[i64]) {
     for (entry, more) in sum.iter_mut().zip(list) {
-        *entry = entry.saturating_add(*more);
+        *entry = entry.wrapping_add(*more);
     }
 }
 
 /// Takes a list off another.
 fn subtract_list(sum: &mut [i64], list: &[i64]) {
     for (entry, less) in sum.iter_mut().zip(list) {
-        *entry = entry.saturating_sub(*less);
+        *entry = entry.wrapping_sub(*less);
     }
 }
 

@@ -2,14 +2,20 @@
 
 use crate::basis::{Basis, units};
 use crate::columns::Column;
-use crate::fixed::{PRICE_BITS, cut, inner_product, product};
+use crate::fixed::{PRICE_BITS, cut, excess_bits, inner_product, product};
 use std::alloc::{AllocError, Global};
 
 /// The size of a residual, with `PRICE_BITS` bits behind the point, below which prices aren't mended further.
 const CLOSE: u64 = 1 << 8;
 
-/// How often prices and values are mended.
-const MENDINGS: u32 = 2;
+/// How often prices are mended, at most ..
+const PRICE_MENDINGS: u32 = 3;
+
+/// .. and how often values are.
+const VALUE_MENDINGS: u32 = 2;
+
+/// The bits to which the factors of entries of the inverse are cut, so that their products fit 64 bits.
+const FACTOR_BITS: u32 = 18;
 
 /// The entry from which on, in size, a column can take a row when the inverse is built anew, with `PRICE_BITS` bits behind
 /// the point.
@@ -59,14 +65,6 @@ fn freest(image: &[i64], is_free: &[bool]) -> Option<usize> {
 }
 
 impl Basis {
-    /// What each item is worth.
-    fn worths(&self, alloc: Global, columns: &[Column]) -> Result<Vec<i64>, AllocError> {
-        self.items
-            .iter()
-            .map(|item| Basis::worth_of(columns, *item))
-            .collect(alloc)
-    }
-
     /// How much each item is worth beyond what it costs.
     fn residuals(&self, alloc: Global, columns: &[Column]) -> Result<Vec<i64>, AllocError> {
         self.items
@@ -76,32 +74,37 @@ impl Basis {
             .collect(alloc)
     }
 
-    /// Adds to the prices what the inverse makes of numbers for the items.
-    fn add_to_prices(&mut self, numbers: &[i64]) {
+    /// Adds to the prices what the inverse makes of numbers for the items, none of which is greater in size than this. The
+    /// numbers are cut to `FACTOR_BITS`: what that leaves is mended next.
+    fn add_to_prices(&mut self, mut numbers: Vec<i64>, size: u64) {
+        let shift = excess_bits(size, FACTOR_BITS);
+        for number in numbers.iter_mut() {
+            *number = number.wrapping_shr(shift);
+        }
         for (price, list) in self.prices.iter_mut().zip(self.inverse.iter()) {
-            let more = cut(inner_product(list.as_slice(), numbers) >> PRICE_BITS);
+            let sum = inner_product(list.as_slice(), numbers.as_slice());
+            let more = sum.wrapping_shr(PRICE_BITS.saturating_sub(shift));
             *price = price.saturating_add(more);
         }
     }
 
-    /// Computes the prices from the inverse and mends them. Answers the greatest residual before that.
+    /// Mends the prices by the inverse. Answers the greatest residual before that.
     pub(crate) fn price_anew(
         &mut self,
         alloc: Global,
         columns: &[Column],
     ) -> Result<u64, AllocError> {
         self.settle();
-        let worths = self.worths(alloc, columns)?;
-        self.prices.fill(0);
-        self.add_to_prices(worths.as_slice());
         let mut residuals = self.residuals(alloc, columns)?;
-        let first = greatest(residuals.as_slice());
-        for _mending in 0..MENDINGS {
-            if greatest(residuals.as_slice()) < CLOSE {
+        let mut size = greatest(residuals.as_slice());
+        let first = size;
+        for _mending in 0..PRICE_MENDINGS {
+            if size < CLOSE {
                 break;
             }
-            self.add_to_prices(residuals.as_slice());
+            self.add_to_prices(residuals, size);
             residuals = self.residuals(alloc, columns)?;
+            size = greatest(residuals.as_slice());
         }
         Ok(first)
     }
@@ -146,7 +149,7 @@ impl Basis {
         alloc: Global,
         columns: &[Column],
     ) -> Result<(), AllocError> {
-        for _mending in 0..MENDINGS {
+        for _mending in 0..VALUE_MENDINGS {
             let left = self.left_over(alloc, columns)?;
             self.add_to_values(alloc, left.as_slice())?;
         }

@@ -12,7 +12,7 @@ struct Multiple {
     /// With `PRICE_BITS` bits behind the point.
     whole: i64,
     /// Cut to `NARROW_BITS`.
-    narrow: i64,
+    narrow: i32,
     /// How many bits too many a product of it and a factor has.
     excess: u32,
 }
@@ -23,7 +23,7 @@ pub(crate) struct Held {
     leaving: usize,
     pivot: i64,
     /// The entries of the image, shifted by so many bits so that they have `NARROW_BITS`; that of the leaving row is 0.
-    factors: Vec<i64>,
+    factors: Vec<i32>,
     shift: u32,
     /// For each list of the inverse.
     multiples: Vec<Multiple>,
@@ -46,13 +46,13 @@ fn factors(
     image: &[i64],
     leaving: usize,
     shift: u32,
-) -> Result<Vec<i64>, AllocError> {
+) -> Result<Vec<i32>, AllocError> {
     let mut factors = Vec::with_capacity(alloc, image.len())?;
     for (row, entry) in image.iter().enumerate() {
         factors.push(if row == leaving {
             0
         } else {
-            entry.wrapping_shr(shift)
+            narrowed(*entry, shift)
         })?;
     }
     Ok(factors)
@@ -64,16 +64,27 @@ fn multiple_of(entry: i64, pivot: i64, shift: u32) -> Multiple {
     let more = narrowing(whole.unsigned_abs());
     Multiple {
         whole,
-        narrow: whole.wrapping_shr(more),
+        narrow: narrowed(whole, more),
         excess: PRICE_BITS.saturating_sub(shift.saturating_add(more)),
     }
 }
 
-/// Takes a multiple of the factors off a list. Both have `NARROW_BITS` bits, so that no product wraps.
-fn subtract_products(list: &mut [i64], factors: &[i64], multiple: Multiple) {
+/// A number shifted so that it has `NARROW_BITS`.
+fn narrowed(x: i64, shift: u32) -> i32 {
+    i32::try_from(x.wrapping_shr(shift)).unwrap_or(0)
+}
+
+/// What a multiple takes off an entry with this factor. The product fits, since both have `NARROW_BITS`.
+fn part(multiple: Multiple, factor: i32) -> i64 {
+    i64::from(multiple.narrow)
+        .wrapping_mul(i64::from(factor))
+        .wrapping_shr(multiple.excess)
+}
+
+/// Takes a multiple of the factors off a list.
+fn subtract_products(list: &mut [i64], factors: &[i32], multiple: Multiple) {
     for (entry, factor) in list.iter_mut().zip(factors) {
-        let product = multiple.narrow.wrapping_mul(*factor);
-        *entry = entry.saturating_sub(product.wrapping_shr(multiple.excess));
+        *entry = entry.wrapping_sub(part(multiple, *factor));
     }
 }
 
@@ -104,8 +115,7 @@ impl Held {
         if row == self.leaving {
             return multiple.whole;
         }
-        let product = multiple.narrow.wrapping_mul(*factor);
-        entry.saturating_sub(product.wrapping_shr(multiple.excess))
+        entry.wrapping_sub(part(*multiple, *factor))
     }
 }
 

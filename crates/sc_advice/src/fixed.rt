@@ -1,5 +1,5 @@
-//! Numbers of fixed point. Sums and products that don't fit 64 bits are cut to the nearest number that does, so nothing wraps: a
-//! number that was cut makes worse advice and nothing else.
+//! Numbers of fixed point. Sums and products that don't fit 64 bits are cut to the nearest number that does, or wrap in the
+//! loops over the inverse, whose time counts: such a number makes worse advice and nothing else.
 
 /// The bits behind the point of prices, costs, excesses and of the entries of the inverse.
 pub(crate) const PRICE_BITS: u32 = 32;
@@ -46,17 +46,23 @@ pub(crate) fn quotient(x: i64, divisor: i64) -> i64 {
     )
 }
 
-/// The sum of the products of two lists.
-pub(crate) fn inner_product(xs: &[i64], ys: &[i64]) -> i128 {
-    let mut sum = 0_i128;
+/// The sum of the products of two lists, each of which fits unless the numbers have gone astray.
+pub(crate) fn inner_product(xs: &[i64], ys: &[i64]) -> i64 {
+    let mut sum = 0_i64;
     for (x, y) in xs.iter().zip(ys) {
-        sum = sum.saturating_add(product(*x, *y));
+        sum = sum.wrapping_add(x.wrapping_mul(*y));
     }
     sum
 }
 
+/// How many bits a number of this size has more than so many.
+pub(crate) fn excess_bits(size: u64, bits: u32) -> u32 {
+    u64::BITS
+        .saturating_sub(size.leading_zeros())
+        .saturating_sub(bits)
+}
+
 /// By how many bits a number of this size is shifted so that it has `NARROW_BITS`.
 pub(crate) fn narrowing(size: u64) -> u32 {
-    let bits = u64::BITS.saturating_sub(size.leading_zeros());
-    bits.saturating_sub(NARROW_BITS)
+    excess_bits(size, NARROW_BITS)
 }
