@@ -10,11 +10,18 @@ use std::alloc::{AllocError, Global};
 const UNIT_COST: i64 = 64;
 
 /// The small number in place of the 0 in the row of the first pair, with `VALUE_BITS` bits behind the point. Those of the
-/// rows after it are each 1 in 100 less, so that no two values tie.
-const FIRST_SMALL: i64 = (1 << VALUE_BITS) / 20_000;
+/// rows after it decrease as a power of the row's number. So no two values tie, and the first rows decide most, as in the
+/// lexicographic rule by which rows leave in earnest: a basis that is feasible here is mostly feasible there.
+const FIRST_SMALL: i64 = (1 << VALUE_BITS) / 1000;
+
+/// The power by which they decrease.
+const DECAY: i64 = 4;
 
 /// The least of these small numbers.
 const LEAST_SMALL: i64 = 16;
+
+/// The size of a value that may come of rounding, with `VALUE_BITS` bits behind the point.
+const ROUNDING: i64 = 1 << 8;
 
 /// The numbers of a basis. An item is the place of a polygon in the pool, or none for the unit of that row.
 #[derive(Drop)]
@@ -37,7 +44,8 @@ pub(crate) struct Basis {
     pub(crate) held: Vec<Held>,
 }
 
-/// A row that can leave: the value of its item, at least 0, and its entry of the image, above 0.
+/// A row that can leave: the value of its item, and its entry of the image. The value is at least 0 and the entry above 0,
+/// or both are negative where a basis is made feasible.
 #[derive(Clone, Copy)]
 pub(crate) struct Leaving {
     pub(crate) row: usize,
@@ -49,9 +57,14 @@ pub(crate) struct Leaving {
 fn right_side(alloc: Global, chain: &Chain, pairs: usize) -> Result<Vec<i64>, AllocError> {
     let mut right = Vec::new(alloc);
     let mut small = FIRST_SMALL;
+    let mut scale = DECAY;
     for _pair in 0..pairs {
         right.push(small.max(LEAST_SMALL))?;
-        small = small.saturating_mul(99) / 100;
+        small = small
+            .saturating_mul(scale)
+            .checked_div(scale.saturating_add(DECAY))
+            .unwrap_or(0);
+        scale = scale.saturating_add(1);
     }
     for entry in chain.entries() {
         right.push(i64::from(entry.0).saturating_mul(1 << VALUE_BITS))?;
@@ -164,6 +177,19 @@ impl Basis {
             }
         }
         best
+    }
+
+    /// The row whose item has the least value, if that is negative and not by rounding alone.
+    pub(crate) fn infeasible_row(&self) -> Option<usize> {
+        let mut worst = None;
+        let mut least = -ROUNDING;
+        for (row, value) in self.values.iter().enumerate() {
+            if *value < least {
+                least = *value;
+                worst = Some(row);
+            }
+        }
+        worst
     }
 
     /// The values where the leaving item has gone and the entering one has this value.

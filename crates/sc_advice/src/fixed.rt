@@ -8,7 +8,7 @@ pub(crate) const PRICE_BITS: u32 = 32;
 pub(crate) const ONE: i64 = 1 << PRICE_BITS;
 
 /// The bits behind the point of the values of a basis and of the right side.
-pub(crate) const VALUE_BITS: u32 = 40;
+pub(crate) const VALUE_BITS: u32 = 48;
 
 /// The bits behind the point of the weights by which excesses are compared.
 pub(crate) const WEIGHT_BITS: u32 = 16;

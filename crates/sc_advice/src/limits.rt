@@ -28,6 +28,9 @@ pub(crate) const MAX_SIDES: u64 = 600;
 pub(crate) const SWAPS_A_SIDE: u32 = 1000;
 
 /// .. and in all, at most.
+/// How often the search makes its last basis feasible and goes on from there, at most.
+pub(crate) const REPAIRS: u32 = 8;
+
 pub(crate) const MAX_SWAPS: u32 = 200_000;
 
 /// The exchanges that are held back before the inverse has them.

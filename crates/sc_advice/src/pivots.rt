@@ -121,6 +121,50 @@ fn exchange_of(
     })
 }
 
+/// The column that can take the place of an item of negative value, whose row this is: the one that grows least too dear for
+/// it, so that no column comes to be worth more than it costs.
+fn replacement(columns: &[Column], row: &[i64], least_pivot: i64) -> Option<usize> {
+    let mut best = None;
+    let (mut least_excess, mut least_entry) = (-1, 0);
+    for (place, column) in columns.iter().enumerate() {
+        let (excess, entry) = (column.excess.min(0), column.cost(row));
+        if !column.is_basic
+            && entry.saturating_add(least_pivot) < 0
+            && product(excess, least_entry) < product(least_excess, entry)
+        {
+            (least_excess, least_entry) = (excess, entry);
+            best = Some(place);
+        }
+    }
+    best
+}
+
+/// The exchange that takes the item of negative value out of this row.
+pub(crate) fn repair_of(
+    alloc: Global,
+    basis: &mut Basis,
+    columns: &[Column],
+    row: usize,
+    pivots: Pivots,
+) -> Result<Option<Exchange>, AllocError> {
+    let list = basis.row(alloc, row)?;
+    let Some(entering) = replacement(columns, list.as_slice(), pivots.least) else {
+        return Ok(None);
+    };
+    if let Some(column) = columns.get(entering) {
+        basis.look_at(column);
+    }
+    Ok(Some(Exchange {
+        entering,
+        leaving: Leaving {
+            row,
+            value: basis.values.get(row).copied().unwrap_or(0),
+            pivot: basis.image.get(row).copied().unwrap_or(0),
+        },
+        gain: 0,
+    }))
+}
+
 /// What is to be done next.
 #[derive(Clone, Copy)]
 pub(crate) enum Choice {

@@ -4,10 +4,10 @@ use crate::basis::Basis;
 use crate::columns::Pool;
 use crate::fixed::{ONE, VALUE_BITS};
 use crate::limits::{
-    CHECK_INTERVAL, EXCHANGES_A_ROW, NEAR_EXCHANGES_A_ROW, PRICING_INTERVAL, RETREATS,
+    CHECK_INTERVAL, EXCHANGES_A_ROW, NEAR_EXCHANGES_A_ROW, PRICING_INTERVAL, REPAIRS, RETREATS,
 };
 use crate::mode::Mode;
-use crate::pivots::{Choice, Pivots, carry_out, choose};
+use crate::pivots::{Choice, Pivots, carry_out, choose, repair_of};
 use crate::pricing::{Stage, find_polygons};
 use crate::steps::Steps;
 use sc_chain::Chain;
@@ -49,6 +49,8 @@ pub(crate) struct Search {
     pivots: Pivots,
     /// How often it may still go back to the last sound basis.
     retreats: u32,
+    /// How often it may still make the basis feasible at its end.
+    repairs: u32,
     /// The exchanges so far, and those since it looked for new polygons.
     pub(crate) exchanges: u32,
     recent: u32,
@@ -109,6 +111,7 @@ impl Search {
                 small: FIRST_SMALL_PIVOT,
             },
             retreats: RETREATS,
+            repairs: REPAIRS,
             exchanges: 0,
             recent: 0,
         })
@@ -180,11 +183,11 @@ impl Search {
         )?;
         let is_fresh = self.recent == 0;
         self.recent = 0;
-        Ok(if found == 0 && is_fresh {
-            Progress::Ends
+        if found == 0 && is_fresh {
+            self.repair(alloc)
         } else {
-            Progress::GoesOn
-        })
+            Ok(Progress::GoesOn)
+        }
     }
 
     /// Mends everything after some exchanges.
@@ -193,6 +196,37 @@ impl Search {
         self.basis.mend_values(alloc, self.pool.columns.as_slice())?;
         self.pool.compare(self.basis.prices.as_slice());
         Ok(())
+    }
+
+    /// Makes exchanges until no item has a negative value. Answers whether it made one.
+    fn make_feasible(&mut self, alloc: Global) -> Result<bool, AllocError> {
+        self.basis.mend_values(alloc, self.pool.columns.as_slice())?;
+        let mut is_changed = false;
+        for _row in 0..self.basis.items.len() {
+            let Some(row) = self.basis.infeasible_row() else {
+                break;
+            };
+            let columns = self.pool.columns.as_slice();
+            let Some(next) = repair_of(alloc, &mut self.basis, columns, row, self.pivots)? else {
+                break;
+            };
+            carry_out(alloc, &mut self.basis, &mut self.pool, next)?;
+            is_changed = true;
+        }
+        Ok(is_changed)
+    }
+
+    /// What is done where no polygon is worth more than it costs: the search ends if its basis is feasible.
+    fn repair(&mut self, alloc: Global) -> Result<Progress, AllocError> {
+        if self.repairs == 0 {
+            return Ok(Progress::Ends);
+        }
+        self.repairs = self.repairs.saturating_sub(1);
+        if !self.make_feasible(alloc)? {
+            return Ok(Progress::Ends);
+        }
+        self.recent = PRICING_INTERVAL;
+        Ok(Progress::GoesOn)
     }
 
     /// One exchange, or a look for new polygons where none is due.
