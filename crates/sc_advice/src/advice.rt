@@ -1,12 +1,14 @@
 //! Lists of polygons that are worth trying first.
 
-ghost use Rattle.std.specs.Prelude.{IfOk, OnOk};
+ghost use Rattle.std.specs.Prelude.{◌≤◌, length, IfOk};
 ghost use Rattle.std.specs.List.{AllByRecursion};
 ghost use Rattle.sc_theory.specs.Walks.{IsPolygon};
 ghost use Rattle.sc_advice.specs.Advice.{IsAdviceFor};
+ghost use Rattle.sc_advice.specs.declared.limits.TheConstants.{MAX_POLYGONS};
 
 use crate::columns::Column;
 use crate::fixed::ONE;
+use crate::limits::MAX_POLYGONS;
 use crate::mode::Mode;
 use crate::search::Search;
 use crate::surface::surface_walks;
@@ -18,7 +20,7 @@ const TIGHT: i64 = ONE / 20;
 
 /// Polygons of a chain that are worth trying first. What order is best is for the caller to say; in each list a polygon stands
 /// once.
-#[derive(Debug, Drop)]
+#[derive(Drop)]
 pub struct Advice {
     /// Those round the vertices of a good surface; none where the chain isn't balanced, or too long for one.
     pub surface: Vec<Polygon>,
@@ -33,16 +35,21 @@ pub struct Advice {
     pub estimate: i64,
 }
 
-/// Adds the polygon of a walk, if it is one.
+/// Adds the polygon of a walk, if it is one and there is room.
 fn add_polygon(
     alloc: Global,
     chain: &Chain,
     polygons: &mut Vec<Polygon>,
     walk: &[u32],
 ) -> Result<(), AllocError>
-    requires { AllByRecursion (IsPolygon chain.now) polygons.old.items }
-    ensures { AllByRecursion (IsPolygon chain.now) polygons.new.items }
+    requires polygons { AllByRecursion (IsPolygon chain.now) polygons.old.items }
+    requires few { length polygons.old.items ≤ MAX_POLYGONS }
+    ensures polygons { AllByRecursion (IsPolygon chain.now) polygons.new.items }
+    ensures few { length polygons.new.items ≤ MAX_POLYGONS }
 {
+    if polygons.len() >= MAX_POLYGONS {
+        return Ok(());
+    }
     if let Some(polygon) = Polygon::of(chain, Vec::from_slice(alloc, walk)?) {
         polygons.push(polygon)?;
     }
@@ -56,7 +63,8 @@ fn polygons_at(
     columns: &[Column],
     places: &[usize],
 ) -> Result<Vec<Polygon>, AllocError>
-    ensures { IfOk result (λ found. AllByRecursion (IsPolygon chain.now) found.items) }
+    ensures polygons { IfOk result (λ found. AllByRecursion (IsPolygon chain.now) found.items) }
+    ensures few { IfOk result (λ found. length found.items ≤ MAX_POLYGONS) }
 {
     let mut polygons = Vec::new(alloc);
     for place in places {
@@ -92,8 +100,9 @@ fn all_places(alloc: Global, bound: usize) -> Result<Vec<usize>, AllocError> {
 }
 
 /// Polygons of a chain that are worth trying first. It tries at most 200,000 exchanges of mates on one copy and on two, and
-/// makes at most 24 exchanges a row of the chain, each with a search for new polygons at most; the same chain and mode have
-/// the same advice on every machine.
+/// makes at most 24 exchanges a row of the chain, each with a search for new polygons at most, and at last at most as many as
+/// there are rows, eight times. What is proved of that is that no list has more than `MAX_POLYGONS` polygons. The same chain
+/// and mode have the same advice on every machine.
 pub fn advise(alloc: Global, chain: &Chain, mode: Mode) -> Result<Advice, AllocError>
     ensures { IfOk result (IsAdviceFor chain.now) }
 {

@@ -1,7 +1,7 @@
 //! The polygons that the search knows, as columns.
 
 use crate::fixed::{ONE, WEIGHT_BITS};
-use crate::limits::MAX_COLUMNS;
+use crate::limits::MAX_POLYGONS;
 use crate::steps::{Step, Steps};
 use std::alloc::{AllocError, Global};
 use std::collections::HashSet;
@@ -111,7 +111,7 @@ impl Pool {
         prices: &[i64],
         bound: i64,
     ) -> Result<bool, AllocError> {
-        if self.columns.len() >= MAX_COLUMNS || self.known.contains(walk.as_slice()) {
+        if self.columns.len() >= MAX_POLYGONS || self.known.contains(walk.as_slice()) {
             return Ok(false);
         }
         let Some(mut column) = column_of(alloc, steps, walk)? else {

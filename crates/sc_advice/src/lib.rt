@@ -9,7 +9,7 @@ mod columns;
 mod cycles;
 mod elimination;
 mod fixed;
-mod limits;
+pub mod limits;
 mod mode;
 mod orbits;
 mod pivots;

@@ -1,7 +1,14 @@
-//! How far the search goes. All of it is free: other numbers make other advice, which is no less true.
+//! How far the search goes. All of it but the first is free: other numbers make other advice, which is no less true.
 
-/// The polygons that the search knows at most.
-pub(crate) const MAX_COLUMNS: usize = 20_000;
+ghost use Rattle.std.specs.Prelude.{◌≡◌};
+
+/// The polygons of a list of advice, at most: so many does the search know.
+pub const MAX_POLYGONS: usize = 20_000;
+
+/// The numbers of the limits.
+pub fn numbers()
+    ensures { MAX_POLYGONS ≡ 20000 }
+{}
 
 /// The polygons whose leaving rows are looked at before one of them enters.
 pub(crate) const CANDIDATES: usize = 12;
@@ -21,6 +28,9 @@ pub(crate) const NEAR_EXCHANGES_A_ROW: u32 = 24;
 /// How often the search goes back to its last sound basis, at most.
 pub(crate) const RETREATS: u32 = 20;
 
+/// How often the search makes its last basis feasible and goes on from there, at most.
+pub(crate) const REPAIRS: u32 = 8;
+
 /// The sides of a surface that the search for a good one takes, at most.
 pub(crate) const MAX_SIDES: u64 = 600;
 
@@ -28,9 +38,6 @@ pub(crate) const MAX_SIDES: u64 = 600;
 pub(crate) const SWAPS_A_SIDE: u32 = 1000;
 
 /// .. and in all, at most.
-/// How often the search makes its last basis feasible and goes on from there, at most.
-pub(crate) const REPAIRS: u32 = 8;
-
 pub(crate) const MAX_SWAPS: u32 = 200_000;
 
 /// The exchanges that are held back before the inverse has them.
