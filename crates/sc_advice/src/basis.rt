@@ -9,12 +9,12 @@ use std::alloc::{AllocError, Global};
 /// What a unit costs, in numbers of vertices: so much that it leaves the basis.
 const UNIT_COST: i64 = 64;
 
-/// The small number in place of the 0 in the row of the first pair, with `VALUE_BITS` bits behind the point. Those of the
-/// rows after it decrease as a power of the row's number. So no two values tie, and the first rows decide most, as in the
+/// The small number in place of the 0 in the row of the first pair, with `VALUE_BITS` bits behind the point. That of row k
+/// is about (`DECAY` / (k + `DECAY`))^`DECAY` times as great. So no two values tie, and the first rows decide most, as in the
 /// lexicographic rule by which rows leave in earnest: a basis that is feasible here is mostly feasible there.
 const FIRST_SMALL: i64 = (1 << VALUE_BITS) / 1000;
 
-/// The power by which they decrease.
+/// How fast the small numbers decrease.
 const DECAY: i64 = 4;
 
 /// The least of these small numbers.
