@@ -44,6 +44,11 @@ same_generator c g h t u a b =
       ]
     ]
 
+pub same_unbalanced : (c : Chain) (g h : ℕ) (t u : ℤ) → IsFirstUnbalanced c g t → IsFirstUnbalanced c h u → (g ≡ h) × (t ≡ u)
+same_unbalanced c g h t u a b =
+    let same : g ≡ h = same_generator c g h t u a b in
+    (same, (subst (λ (k : ℕ). IsFirstUnbalanced c k t) same a).total_is ∙ sym b.total_is)
+
 pub same_infinite : (c : Chain) (g h : ℕ) (t u : ℤ) → IsFirstUnbalanced c g t → IsFirstUnbalanced c h u → infinite g t ≡ infinite h u
 same_infinite c g h t u a b =
     let same : g ≡ h = same_generator c g h t u a b in

@@ -11,6 +11,9 @@ use Rattle.sc_text.proofs.SurfaceLaws.{faultless_text}
 use Rattle.sc_text.proofs.SurfaceLaws.{one_text, SameSurface}
 use Rattle.sc_certificate.specs.Certificates.{Certificate, certificate_text, certificate_plan}
 use Rattle.sc_certificate.proofs.TextLaws.{text_is_faultless, text_is_of_one}
+use Rattle.sc_fan.specs.Fans.{FanSaid, fan_plan}
+use Rattle.sc_fan.proofs.TextLaws as fans
+use Rattle.sc_app.specs.Svg.{IsFanText}
 use Rattle.sc_app.specs.declared.said.Heading.TheVariants.{CertificateText, SurfaceText}
 use Rattle.sc_app.specs.Said.{IsCertificateText, IsTextOf, Says, is_headed_as_certificate, plan_of, plan_for}
 
@@ -19,6 +22,12 @@ certificate_faultless input v t = subst (IsFaultless certificate_plan) (sym t.te
 
 pub same_certificate : (input : List ℕ) (v w : Certificate) → IsCertificateText input v → IsCertificateText input w → v ≡ w
 same_certificate input v w t u = text_is_of_one v w t.in_range u.in_range (sym t.text ∙ u.text)
+
+pub fan_faultless : (input : List ℕ) (v : FanSaid) → IsFanText input v → IsFaultless fan_plan input
+fan_faultless input v t = subst (IsFaultless fan_plan) (sym t.text) (fans.text_is_faultless v t.in_range)
+
+pub same_fan : (input : List ℕ) (v w : FanSaid) → IsFanText input v → IsFanText input w → v ≡ w
+same_fan input v w t u = fans.text_is_of_one v w t.in_range u.in_range (sym t.text ∙ u.text)
 
 -- the text of a surface isn't headed as a certificate, and that of a certificate is
 surface_heading : (c : Chain) (n : ℕ) (g : Sides) → is_headed_as_certificate (surface_text c n g) ≡ false

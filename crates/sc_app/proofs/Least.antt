@@ -2,30 +2,26 @@
 -- generator, or why `scl` found no least surface.
 use Rattle.std.proofs.Common.{ℕ, ◌⊎◌, inl, inr, List, Option, None, Some, IfSome, pos, ◌<ℤ◌, sym, subst, ◌∙◌, arith}
 use Rattle.std.proofs.lemmas.Int.{ints}
-use Rattle.sc_theory.specs.Chains.{Chain, IsChain}
+use Rattle.sc_theory.specs.Chains.{Chain}
 use Rattle.sc_theory.specs.Fatgraphs.{IsFatgraph, IsLeast}
 use Rattle.sc_theory.proofs.Vouching.{covers}
 use Rattle.sc_theory.proofs.Leastness as leastness
-use Rattle.sc_text.specs.Surfaces.{IsChainInRange}
 use Rattle.sc_certificate.specs.Certificates.{Certificate, IsCertificateInRange}
 use Rattle.sc_prices.specs.Conditions.{AllHold}
 use Rattle.sc_solve.specs.Solutions.{certificate_of}
 use Rattle.sc_chain.specs.declared.lines.RawLine.{RawLine}
 use Rattle.sc_chain.specs.ChainText.{IsChainText}
 use Rattle.sc_reduce.specs.Lines.{chain_of, IsWithin}
-use Rattle.sc_text.proofs.ReadChains.{accepted}
 use Rattle.sc_reduce.proofs.LineLaws.{chain_total-chain_of}
 use Rattle.sc_outside.specs.Told.{Took}
-use Rattle.sc_app.specs.declared.command.Command.TheVariants.{Check, Scl}
+use Rattle.sc_app.specs.declared.command.Command.TheVariants.{Check, Scl, Ball}
+use Rattle.sc_app.specs.declared.status.Status.{Status}
 use Rattle.sc_app.specs.declared.status.Status.TheVariants.{Done, Budget, Wide, Sides}
 use Rattle.sc_app.specs.Check.{CheckResponds, ShowsLeast}
+use Rattle.sc_app.specs.Ball.{OfItsChains, DoneFor, IsStopped}
 use Rattle.sc_app.specs.Scl.{IsInfinite, IsSolved, IsOverBudget, IsTooWide, HasTooManySides, ShowsInfinite, ShowsExtremal, ShowsScl, OfItsChain}
 use Rattle.sc_app.specs.Answers.{AnswersTo, Delivers}
-
-chain_in_range : (c : Chain) → IsChainInRange c → IsChain c
-chain_in_range c h =
-    let good = (accepted c h).good in
-    record { words = λ w inside. (good w inside).nonempty; reduced = λ w inside. (good w inside).reduced }
+use Rattle.sc_app.proofs.Ranges.{chain_in_range}
 
 -- a certificate whose conditions all hold has a fatgraph that is least
 least_of : (v : Certificate) → IsCertificateInRange v → AllHold v → IsLeast v.chain v.copies v.sides
@@ -79,6 +75,13 @@ shows_scl : (n : ℕ) (input text : List ℕ) → OfItsChain input (λ c. IsInfi
 shows_scl n input text (lines, read, within, inl i) = inl (shows_infinite input text lines read within i)
 shows_scl n input text (lines, read, within, inr s) = inr (shows_extremal n input text lines read within s)
 
+-- the statuses of what stops a solver
+abbrev IsStop : Status → Type 0
+IsStop Budget = Unit {0}
+IsStop Wide = Unit {0}
+IsStop Sides = Unit {0}
+IsStop _ = ⊥
+
 least_answer : (input text : List ℕ) → AnswersTo Check input Done text → ShowsLeast input text
 least_answer input text (inl a) = absurd (cc a.1)
 least_answer input text (inr a) = shows_least input text a.1
@@ -127,3 +130,28 @@ pub too_many_sides : (n : ℕ) (left old new : Option (List ℕ)) → Delivers (
     → IfSome left (λ input. (text : List ℕ) × OfItsChain input (λ c. HasTooManySides c n text) × Took old new text)
 too_many_sides n None old new d = tt
 too_many_sides n (Some input) old new d = (d.0, sides_answer n input d.0 d.1, d.2)
+
+-- ---- two chains
+
+ball_done : (n : ℕ) (input text : List ℕ) → AnswersTo (Ball n) input Done text → OfItsChains input (λ c d. DoneFor c d text)
+ball_done n input text (inl a) = absurd (cc a.1)
+ball_done n input text (inr a) = a.1
+
+stop_answer : (n : ℕ) (s : Status) (input text : List ℕ) → IsStop s → AnswersTo (Ball n) input s text → OfItsChains input (λ c d. IsStopped c d n s text)
+stop_answer n Budget input text stop (inl a) = absurd (cc a.1)
+stop_answer n Budget input text stop (inr a) = a.1
+stop_answer n Wide input text stop (inl a) = absurd (cc a.1)
+stop_answer n Wide input text stop (inr a) = a.1
+stop_answer n Sides input text stop (inl a) = absurd (cc a.1)
+stop_answer n Sides input text stop (inr a) = a.1
+stop_answer n _ input text stop a = absurd stop
+
+pub ball_between : (n : ℕ) (left old new : Option (List ℕ)) → Delivers (Ball n) left old new Done
+    → IfSome left (λ input. (text : List ℕ) × OfItsChains input (λ c d. DoneFor c d text) × Took old new text)
+ball_between n None old new d = tt
+ball_between n (Some input) old new d = (d.0, ball_done n input d.0 d.1, d.2)
+
+pub ball_stopped : (n : ℕ) (s : Status) (left old new : Option (List ℕ)) → IsStop s → Delivers (Ball n) left old new s
+    → IfSome left (λ input. (text : List ℕ) × OfItsChains input (λ c d. IsStopped c d n s text) × Took old new text)
+ball_stopped n s None old new stop d = tt
+ball_stopped n s (Some input) old new stop d = (d.0, stop_answer n s input d.0 stop d.1, d.2)

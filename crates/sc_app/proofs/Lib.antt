@@ -3,10 +3,13 @@ pub mod FirstPlaces
 pub mod ShapeTexts
 pub mod ShapeLaws
 pub mod DrawingLaws
+pub mod FanDrawings
 pub mod Forms
 pub mod Reports
 pub mod Inputs
 pub mod Chains
+pub mod TwoTexts
+pub mod Balls
 pub mod OneText
 pub mod OneAnswer
 pub mod Accepted

@@ -1,5 +1,5 @@
 -- An input has one answer.
-use Rattle.std.proofs.Common.{◌≡◌, ℕ, ◌⊎◌, inl, inr, List, [], refl, ap, ap₂, ◌∙◌, subst, sym, arith}
+use Rattle.std.proofs.Common.{◌≡◌, ℕ, Bool, true, false, ◌⊎◌, inl, inr, List, [], refl, ap, ap₂, ◌∙◌, subst, sym, arith}
 use Rattle.sc_theory.specs.Chains.{Chain}
 use Rattle.sc_theory.specs.Fatgraphs.{Sides, IsFatgraph}
 use Rattle.sc_line.specs.declared.fault.Kind.{Kind}
@@ -18,7 +18,7 @@ use Rattle.sc_prices.specs.declared.verdict.Condition.TheVariants.{Flaw}
 use Rattle.sc_prices.specs.Conditions.{AllHold, IsFirstFailing}
 use Rattle.sc_prices.proofs.Failing.{one_failing, none_failing}
 use Rattle.sc_app.specs.declared.command.Command.{Command}
-use Rattle.sc_app.specs.declared.command.Command.TheVariants.{Surface, Shape, Check, Svg, Scl, Generate}
+use Rattle.sc_app.specs.declared.command.Command.TheVariants.{Surface, Shape, Check, Svg, Scl, Ball, Generate}
 use Rattle.sc_app.specs.declared.status.Status.{Status}
 use Rattle.sc_app.specs.declared.status.Status.TheVariants.{Done, Malformed, Large, Rejected, Budget, Wide}
 use Rattle.sc_app.specs.declared.status.Status.TheVariants as statuses
@@ -29,8 +29,14 @@ use Rattle.sc_app.specs.Surface.{IsReport}
 use Rattle.sc_app.specs.Shape.{IsShape}
 use Rattle.sc_app.specs.Svg.{IsPicture}
 use Rattle.sc_app.specs.Check.{CheckResponds}
+use Rattle.sc_fan.specs.Fans.{FanSaid, fan_plan}
+use Rattle.sc_two.specs.TwoTexts.{IsTwoText, IsFirstWrong}
+use Rattle.sc_two.proofs.Places.{good_or_wrong}
 use Rattle.sc_app.specs.Scl.{SclResponds, HasSeveralAnswers}
-use Rattle.sc_app.proofs.Inputs.{certificate_faultless, same_certificate, says_no_fault, same_surface}
+use Rattle.sc_app.specs.Ball.{BallResponds, HasSeveralBalls, both_of}
+use Rattle.sc_app.specs.Svg.{FanResponds, RespondsByHead, IsFanText, is_headed_as_fan}
+use Rattle.sc_app.proofs.TwoTexts.{one_wrong, same_two}
+use Rattle.sc_app.proofs.Inputs.{certificate_faultless, fan_faultless, same_certificate, says_no_fault, same_surface}
 use Rattle.sc_app.proofs.OneText.{one_text}
 use Rattle.sc_app.specs.declared.command.Reading.{Reading}
 use Rattle.sc_app.specs.declared.command.Reading.TheVariants.{Nothing, AtMost}
@@ -155,14 +161,63 @@ one_scl_status input s s' (inr a) (inl b) = absurd (good_or_malformed input a.0 
 one_scl_status input s s' (inr a) (inr b) =
     one_chain_status (chain_of b.0) s s' (subst (λ (lines : List RawLine). ChainCause (chain_of lines) s) (a.1.entries ∙ sym b.1.entries) a.2) b.2
 
+-- ---- two chains
+
+-- what a status of `ball` comes of where the input has one right answer
+abbrev BallCause : List ℕ → Status → Type 0
+BallCause input s =
+    ((at : ℕ) × (kind : Kind) × (s ≡ Malformed at kind) × IsFirstWrong input at kind)
+    ⊎ ((first : List RawLine) × (second : List RawLine) × IsTwoText input first second × ChainCause (both_of first second) s)
+
+ball_cause : (n : ℕ) (input text : List ℕ) (s : Status) → ¬ HasSeveralBalls input → BallResponds n input s text → BallCause input s
+ball_cause n input text (Malformed at kind) one r = inl (at, kind, refl, r.0)
+ball_cause n input text (Large (Words count)) one r = inr (r.0, r.1, r.2, inl (count, refl, r.3.0))
+ball_cause n input text (Large (Positions count)) one r = inr (r.0, r.1, r.2, inr (inl (count, refl, r.3.0)))
+ball_cause n input text Done one r = inr (r.0, r.1, r.2, inr (inr (refl, r.3.0)))
+ball_cause n input text Budget one r = absurd (one (r.0, r.1, r.2, (r.3.0, (r.3.1.first_balanced, r.3.1.second_balanced))))
+ball_cause n input text Wide one r = absurd (one (r.0, r.1, r.2, (r.3.0, (r.3.1.first_balanced, r.3.1.second_balanced))))
+ball_cause n input text statuses.Sides one r = absurd (one (r.0, r.1, r.2, (r.3.0, (r.3.1.first_balanced, r.3.1.second_balanced))))
+ball_cause n input text _ one r = absurd r.3.1
+
+one_ball_status : (input : List ℕ) (s s' : Status) → BallCause input s → BallCause input s' → s ≡ s'
+one_ball_status input s s' (inl a) (inl b) = a.2 ∙ one_wrong input a.0 b.0 a.1 b.1 a.3 b.3 ∙ sym b.2
+one_ball_status input s s' (inl a) (inr b) = absurd (good_or_wrong input b.0 b.1 a.0 a.1 b.2 a.3)
+one_ball_status input s s' (inr a) (inl b) = absurd (good_or_wrong input a.0 a.1 b.0 b.1 a.2 b.3)
+one_ball_status input s s' (inr a) (inr b) =
+    let same = same_two input a.0 a.1 b.0 b.1 a.2 b.2 in
+    one_chain_status (both_of b.0 b.1) s s' (subst (λ (c : Chain). ChainCause c s) (ap₂ both_of same.0 same.1) a.3) b.3
+
+-- ---- fans
+
+-- what a status of `svg` comes of where the input is headed as a fan
+abbrev FanCause : List ℕ → Status → Type 0
+FanCause input s =
+    ((at : ℕ) × (kind : Kind) × (s ≡ Malformed at kind) × IsFirstFault fan_plan input at kind) ⊎ ((v : FanSaid) × (s ≡ Done) × IsFanText input v)
+
+fan_cause : (input text : List ℕ) (s : Status) → FanResponds input s text → FanCause input s
+fan_cause input text (Malformed at kind) r = inl (at, kind, refl, r.0)
+fan_cause input text Done r = inr (r.0, refl, r.1)
+fan_cause input text _ r = absurd r
+
+one_fan_status : (input : List ℕ) (s s' : Status) → FanCause input s → FanCause input s' → s ≡ s'
+one_fan_status input s s' (inl a) (inl b) = let same = first_fault-unique fan_plan input a.0 b.0 a.1 b.1 a.3 b.3 in a.2 ∙ ap₂ Malformed same.0 same.1 ∙ sym b.2
+one_fan_status input s s' (inl a) (inr b) = absurd (faultless_first fan_plan input a.0 a.1 (fan_faultless input b.0 b.2) a.3)
+one_fan_status input s s' (inr a) (inl b) = absurd (faultless_first fan_plan input b.0 b.1 (fan_faultless input a.0 a.2) b.3)
+one_fan_status input s s' (inr a) (inr b) = a.1 ∙ sym b.1
+
+one_svg_status : (head : Bool) (input text text' : List ℕ) (s s' : Status) → RespondsByHead head input s text → RespondsByHead head input s' text' → s ≡ s'
+one_svg_status true input text text' s s' r r' = one_fan_status input s s' (fan_cause input text s r) (fan_cause input text' s' r')
+one_svg_status false input text text' s s' r r' = one_surface_status input s s' (surface_cause IsPicture input text s r) (surface_cause IsPicture input text' s' r')
+
 -- ---- commands
 
 one_response : (c : Command) (input text text' : List ℕ) (s s' : Status) → IsDetermined c input → Responds c input s text → Responds c input s' text' → s ≡ s'
 one_response Surface input text text' s s' one r r' = one_surface_status input s s' (surface_cause IsReport input text s r) (surface_cause IsReport input text' s' r')
 one_response Shape input text text' s s' one r r' = one_surface_status input s s' (surface_cause IsShape input text s r) (surface_cause IsShape input text' s' r')
-one_response Svg input text text' s s' one r r' = one_surface_status input s s' (surface_cause IsPicture input text s r) (surface_cause IsPicture input text' s' r')
+one_response Svg input text text' s s' one r r' = one_svg_status (is_headed_as_fan input) input text text' s s' r r'
 one_response Check input text text' s s' one r r' = one_check_status input s s' (check_cause input text s r) (check_cause input text' s' r')
 one_response (Scl pivots) input text text' s s' one r r' = one_scl_status input s s' (scl_cause pivots input text s one r) (scl_cause pivots input text' s' one r')
+one_response (Ball pivots) input text text' s s' one r r' = one_ball_status input s s' (ball_cause pivots input text s one r) (ball_cause pivots input text' s' one r')
 one_response (Generate seed letters) input text text' s s' one r r' = absurd one
 
 one_of_reading : (reading : Reading) (c : Command) (input text text' : List ℕ) (s s' : Status) → DeterminedBy reading c input → RespondsBy reading c input s text → RespondsBy reading c input s' text' → s ≡ s'

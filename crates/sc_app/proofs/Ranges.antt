@@ -4,7 +4,7 @@ use Rattle.std.proofs.lemmas.Int.{ints}
 use Rattle.std.proofs.lemmas.List.Elements.{All-nil, All-cons}
 use Rattle.std.specs.List.{AllByRecursion}
 use Rattle.sc_theory.specs.Words.{Word, cyclic_reduction}
-use Rattle.sc_theory.specs.Chains.{Chain, no_word, no_letter, word}
+use Rattle.sc_theory.specs.Chains.{Chain, IsChain, no_word, no_letter, word}
 use Rattle.sc_line.specs.Lines.{Line}
 use Rattle.sc_chain.specs.declared.lines.RawLine.{RawLine}
 use Rattle.sc_chain.specs.declared.limits.TheConstants.{GENERATORS}
@@ -15,6 +15,7 @@ use Rattle.sc_reduce.proofs.LineLaws.{All-chain_of, good_chain, generators_of_ch
 use Rattle.sc_text.specs.declared.limits.TheConstants.{MAX_WEIGHT}
 use Rattle.sc_text.specs.Words.{IsWordInRange}
 use Rattle.sc_text.specs.Surfaces.{IsChainInRange}
+use Rattle.sc_text.proofs.ReadChains.{accepted}
 
 -- a fact of each entry, by the entry's number
 by_number : {A : Type 0} (P : A → Type 0) (d : A) (xs : List A) → ((k : ℕ) → k < length xs → P (get_or xs k d)) → AllByRecursion P xs
@@ -53,8 +54,8 @@ module _ (lines : List RawLine) (raw : All IsRawLine lines) where
         reduced = good.reduced;
       }
 
-  of_lines : IsWithin (chain_of lines) → IsChainInRange (chain_of lines)
-  of_lines within = record {
+  pub chain_of_lines : IsWithin (chain_of lines) → IsChainInRange (chain_of lines)
+  chain_of_lines within = record {
     count = within.few_words;
     words = by_number IsWordInRange no_word (chain_of lines) word_in_range;
     letters = within.few_positions;
@@ -63,4 +64,10 @@ module _ (lines : List RawLine) (raw : All IsRawLine lines) where
 -- the chain of the lines that a text says
 pub chain_of_text : (input : List ℕ) (lines : List RawLine) → IsChainText input lines → IsWithin (chain_of lines) → IsChainInRange (chain_of lines)
 chain_of_text input lines read within =
-    of_lines lines (subst (All IsRawLine) (sym read.entries) (raw_lines_in_range 1 (text_lines input))) within
+    chain_of_lines lines (subst (All IsRawLine) (sym read.entries) (raw_lines_in_range 1 (text_lines input))) within
+
+-- and it is a chain
+pub chain_in_range : (c : Chain) → IsChainInRange c → IsChain c
+chain_in_range c h =
+    let good = (accepted c h).good in
+    record { words = λ w inside. (good w inside).nonempty; reduced = λ w inside. (good w inside).reduced }

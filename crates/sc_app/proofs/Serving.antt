@@ -1,9 +1,9 @@
 -- How a command ends, from what it responds and what the sink took.
-use Rattle.std.proofs.Common.{◌≡◌, ℕ, ◌≤◌, ◌⊎◌, inl, inr, List, [], Option, None, Some, IfSome, length, subst, sym, arith}
+use Rattle.std.proofs.Common.{◌≡◌, ℕ, Bool, true, false, ◌≤◌, ◌⊎◌, inl, inr, List, [], Option, None, Some, IfSome, length, subst, sym, arith}
 use Rattle.std.proofs.lemmas.List.{drop_all}
 use Rattle.sc_outside.specs.Told.{Delivered, Took, TookPart}
 use Rattle.sc_app.specs.declared.command.Command.{Command}
-use Rattle.sc_app.specs.declared.command.Command.TheVariants.{Surface, Shape, Check, Svg, Scl, Generate}
+use Rattle.sc_app.specs.declared.command.Command.TheVariants.{Surface, Shape, Check, Svg, Scl, Ball, Generate}
 use Rattle.sc_app.specs.declared.command.Reading.{Reading}
 use Rattle.sc_app.specs.declared.command.Reading.TheVariants.{Nothing, AtMost}
 use Rattle.sc_app.specs.declared.status.Status.{Status}
@@ -17,9 +17,10 @@ use Rattle.sc_theory.specs.Fatgraphs.{Sides as SideList}
 use Rattle.sc_app.specs.Said.{Refuses, RespondsBySides}
 use Rattle.sc_app.specs.Surface.{IsReport}
 use Rattle.sc_app.specs.Shape.{IsShape}
-use Rattle.sc_app.specs.Svg.{IsPicture}
+use Rattle.sc_app.specs.Svg.{IsPicture, FanResponds, RespondsByHead, is_headed_as_fan}
 use Rattle.sc_app.specs.Check.{CheckResponds}
 use Rattle.sc_app.specs.Scl.{SclResponds}
+use Rattle.sc_app.specs.Ball.{BallResponds}
 use Rattle.sc_app.specs.Generate.{GenerateResponds}
 use Rattle.sc_app.specs.Answers.{Responds, RespondsBy, AnswersTo, EndsBy}
 
@@ -55,6 +56,25 @@ scl_suits n input text Wide r = tt
 scl_suits n input text Sides r = tt
 scl_suits n input text _ r = absurd r.3
 
+ball_suits : (n : ℕ) (input text : List ℕ) (s : Status) → BallResponds n input s text → Suits (kind_of s) text
+ball_suits n input text (Malformed at kind) r = r.1
+ball_suits n input text (Large (Words count)) r = r.3.1
+ball_suits n input text (Large (Positions count)) r = r.3.1
+ball_suits n input text Done r = tt
+ball_suits n input text Budget r = tt
+ball_suits n input text Wide r = tt
+ball_suits n input text Sides r = tt
+ball_suits n input text _ r = absurd r.3.1
+
+fan_suits : (input text : List ℕ) (s : Status) → FanResponds input s text → Suits (kind_of s) text
+fan_suits input text (Malformed at kind) r = r.1
+fan_suits input text Done r = tt
+fan_suits input text _ r = absurd r
+
+svg_suits : (head : Bool) (input text : List ℕ) (s : Status) → RespondsByHead head input s text → Suits (kind_of s) text
+svg_suits true input text s r = fan_suits input text s r
+svg_suits false input text s r = sides_suit IsPicture input text s r
+
 generate_suits : (seed letters : ℕ) (text : List ℕ) (s : Status) → GenerateResponds seed letters s text → Suits (kind_of s) text
 generate_suits seed letters text Done r = tt
 generate_suits seed letters text Budget r = tt
@@ -65,9 +85,10 @@ generate_suits seed letters text _ r = absurd r
 suits : (c : Command) (input text : List ℕ) (s : Status) → Responds c input s text → Suits (kind_of s) text
 suits Surface input text s r = sides_suit IsReport input text s r
 suits Shape input text s r = sides_suit IsShape input text s r
-suits Svg input text s r = sides_suit IsPicture input text s r
+suits Svg input text s r = svg_suits (is_headed_as_fan input) input text s r
 suits Check input text s r = check_suits input text s r
 suits (Scl pivots) input text s r = scl_suits pivots input text s r
+suits (Ball pivots) input text s r = ball_suits pivots input text s r
 suits (Generate seed letters) input text s r = generate_suits seed letters text s r
 
 -- ---- so a command ends

@@ -1,5 +1,5 @@
 -- No input is left without an answer.
-use Rattle.std.proofs.Common.{◌≡◌, ℕ, zero, suc, ◌*◌, ◌/◌, ◌<◌, ◌≤◌, ◌⊎◌, inl, inr, List, [], length, Option, None, Some, IsSome, ℤ, pos, ◌+◌, ◌*ℤ◌, unsigned_abs, int_div, refl, ap, sym, ◌∙◌, subst, arith}
+use Rattle.std.proofs.Common.{Bool, true, false, codes, take, drop, pred, ◌≡◌, ℕ, suc, ◌*◌, ◌/◌, ◌<◌, ◌≤◌, ◌⊎◌, inl, inr, List, [], length, None, Some, IsSome, ℤ, pos, ◌+◌, ◌*ℤ◌, unsigned_abs, int_div, refl, ap, sym, ◌∙◌, subst, arith}
 use Rattle.std.proofs.lemmas.Bool.{cases_Bool, cases_eq, cases_lt, cond-true, cond-false}
 use Rattle.std.proofs.lemmas.Int.{ints}
 use borrow.Author.Differences.{up, down}
@@ -10,7 +10,8 @@ use Rattle.sc_theory.proofs.Reduction.{cases_option}
 use Rattle.sc_line.specs.declared.fault.Kind.{Kind}
 use Rattle.sc_chain.specs.declared.lines.RawLine.{RawLine}
 use Rattle.sc_chain.specs.declared.limits.TheConstants.{GENERATORS, MAX_WORDS, MAX_POSITIONS}
-use Rattle.sc_chain.specs.ChainText.{IsChainText, line_case, line_at, line_kind, text_lines, raw_lines}
+use Rattle.std.specs.List.{All}
+use Rattle.sc_chain.specs.ChainText.{IsChainText, IsRawLine, line_case, line_at, line_kind, text_lines, raw_lines}
 use Rattle.sc_chain.specs.Balance.{IsFirstUnbalanced}
 use Rattle.sc_chain.specs.Faults.{AreGenerators}
 use Rattle.sc_chain.proofs.Balanced.{chain_total_beyond}
@@ -40,7 +41,7 @@ use Rattle.std.proofs.lemmas.Nat.Gcd.{IsGcd-swap}
 use Rattle.sc_whole.proofs.DivisorLaws.{gcd_exists, IsGcd-pos}
 use Rattle.sc_algebra.proofs.Ints.{products}
 use Rattle.sc_app.specs.declared.command.Command.{Command}
-use Rattle.sc_app.specs.declared.command.Command.TheVariants.{Surface, Shape, Check, Svg, Scl, Generate}
+use Rattle.sc_app.specs.declared.command.Command.TheVariants.{Surface, Shape, Check, Svg, Scl, Ball, Generate}
 use Rattle.sc_app.specs.declared.command.Reading.{Reading}
 use Rattle.sc_app.specs.declared.command.Reading.TheVariants.{Nothing, AtMost}
 use Rattle.sc_app.specs.declared.said.Heading.TheVariants.{CertificateText, SurfaceText}
@@ -52,7 +53,13 @@ use Rattle.sc_app.specs.Rejections.{rejection}
 use Rattle.sc_app.specs.Said.{IsCertificateText, Says, RespondsBySides, is_headed_as_certificate, plan_of, plan_for}
 use Rattle.sc_app.specs.Surface.{IsReport, report}
 use Rattle.sc_app.specs.Shape.{IsShape}
-use Rattle.sc_app.specs.Svg.{IsPicture}
+use Rattle.sc_app.specs.Svg.{IsPicture, FanResponds, RespondsByHead, is_headed_as_fan}
+use Rattle.sc_app.specs.Ball.{BallResponds, HasSeveralBalls, both_of, infinite_in}
+use Rattle.sc_two.specs.TwoTexts.{IsTwoText}
+use Rattle.sc_fan.specs.Fans.{fan_plan}
+use Rattle.sc_fan.proofs.TextLaws as fans
+use Rattle.sc_app.proofs.TwoTexts.{two_texts}
+use Rattle.sc_app.proofs.FanDrawings.{some_fan_drawing}
 use Rattle.sc_app.specs.Check.{CheckResponds, optimal}
 use Rattle.sc_app.specs.Scl.{SclResponds, HasSeveralAnswers, infinite}
 use Rattle.sc_app.specs.Answers.{Responds, RespondsBy, AnswersTo, IsDetermined, DeterminedBy}
@@ -277,6 +284,51 @@ module _ (n : ℕ) (input : List ℕ) (one : ¬ HasSeveralAnswers input) (none :
     ]
   ]
 
+-- ---- two chains
+
+generators_of : (lines : List RawLine) → All IsRawLine lines → AreGenerators (chain_of lines)
+generators_of lines raw = generators_of_chain lines raw
+
+module _ (n : ℕ) (input : List ℕ) (one : ¬ HasSeveralBalls input) (none : (s : Status) (text : List ℕ) → ¬ BallResponds n input s text) where
+  two : (first : List RawLine) × (second : List RawLine) × IsTwoText input first second
+  two = two_texts input (λ i kind wrong. none (Malformed i kind) [] (wrong, refl))
+
+  module _ (first second : List RawLine) (read : IsTwoText input first second) where
+    both_small : IsWithin (both_of first second) → ⊥
+    both_small within =
+        let first_balanced : IsBalanced (chain_of first) =
+        is_balanced (chain_of first) (generators_of first (subst (All IsRawLine) (sym read.first_is) (raw_lines_in_range 1 (take (pred read.separator) (text_lines input)))))
+        (λ g t unbalanced. none Done (infinite_in (codes "first") g t) (first, second, read, (within, inl (record { generator = g; total = t; unbalanced = unbalanced; text_is = refl })))) in
+        let second_balanced : IsBalanced (chain_of second) =
+        is_balanced (chain_of second) (generators_of second (subst (All IsRawLine) (sym read.second_is) (raw_lines_in_range (suc read.separator) (drop read.separator (text_lines input)))))
+        (λ g t unbalanced. none Done (infinite_in (codes "second") g t)
+        (first, second, read, (within, inr (inl (record { balanced = first_balanced; generator = g; total = t; unbalanced = unbalanced; text_is = refl }))))) in
+        one (first, second, read, (within, (first_balanced, second_balanced)))
+
+    read_answered : ⊥
+    read_answered = elim (cases_lt MAX_WORDS (length (both_of first second))) [
+      | inl many ↦ none (Large (Words (length (both_of first second)))) [] (first, second, read, (record { many = many; count_is = refl }, refl))
+      | inr few ↦ elim (cases_lt MAX_POSITIONS (positions (both_of first second))) [
+        | inl many ↦ none (Large (Positions (positions (both_of first second)))) [] (first, second, read, (record { few_words = few; many = many; count_is = refl }, refl))
+        | inr small ↦ both_small (record { few_words = few; few_positions = small })
+      ]
+    ]
+
+  pub ball_answered : ⊥
+  ball_answered = read_answered two.0 two.1 two.2
+
+-- ---- fans
+
+-- a text that is headed as a fan is drawn: `some_fan_drawing` is to be proved beside `one_fan_drawing`
+fan_answered : (input : List ℕ) → ((s : Status) (text : List ℕ) → ¬ FanResponds input s text) → ⊥
+fan_answered input none =
+    let t = fans.faultless_is_text input (faultless fan_plan input (λ i kind here before. none (Malformed i kind) [] (record { here = here; least = before }, refl))) in
+    some_fan_drawing t.0.corners t.1.corners (λ text drawn. none Done text (t.0, record { text = t.2; in_range = t.1 }, drawn))
+
+svg_answered : (head : Bool) (input : List ℕ) → ((s : Status) (text : List ℕ) → ¬ RespondsByHead head input s text) → ⊥
+svg_answered true input none = fan_answered input none
+svg_answered false input none = sides_answered IsPicture input none (λ c n g fatgraph never. some_drawing c n g fatgraph never)
+
 -- ---- commands
 
 -- a fraction in lowest terms for each quotient
@@ -308,9 +360,10 @@ some_report c n g fatgraph never =
 answered : (c : Command) (input : List ℕ) → IsDetermined c input → ((s : Status) (text : List ℕ) → ¬ Responds c input s text) → ⊥
 answered Surface input one none = sides_answered IsReport input none (λ c n g fatgraph never. some_report c n g fatgraph never)
 answered Shape input one none = sides_answered IsShape input none (λ c n g fatgraph never. some_shape c n g never)
-answered Svg input one none = sides_answered IsPicture input none (λ c n g fatgraph never. some_drawing c n g fatgraph never)
+answered Svg input one none = svg_answered (is_headed_as_fan input) input none
 answered Check input one none = check_answered input none
 answered (Scl pivots) input one none = scl_answered pivots input one none
+answered (Ball pivots) input one none = ball_answered pivots input one none
 answered (Generate seed letters) input one none = absurd one
 
 pub some_answer : (c : Command) (input : List ℕ) → DeterminedBy (reads c) c input → ((s : Status) (text : List ℕ) → ¬ AnswersTo c input s text) → ⊥

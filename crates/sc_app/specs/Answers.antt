@@ -2,7 +2,7 @@
 use Rattle.std.specs.Prelude.{◌≡◌, ℕ, ◌<◌, ◌≤◌, ◌⊎◌, List, [], length, Option, IfSome}
 use Rattle.sc_outside.specs.Told.{Took, TookPart}
 use Rattle.sc_app.specs.declared.command.Command.{Command}
-use Rattle.sc_app.specs.declared.command.Command.TheVariants.{Surface, Shape, Check, Svg, Scl, Generate}
+use Rattle.sc_app.specs.declared.command.Command.TheVariants.{Surface, Shape, Check, Svg, Scl, Ball, Generate}
 use Rattle.sc_app.specs.declared.command.Reading.{Reading}
 use Rattle.sc_app.specs.declared.command.Reading.TheVariants.{Nothing, AtMost}
 use Rattle.sc_app.specs.declared.status.Status.{Status}
@@ -15,9 +15,10 @@ use Rattle.sc_app.specs.Reading.{reads, given, MayRead, IsUntouched}
 use Rattle.sc_app.specs.Said.{SaysSurface, IsStatusOfSides}
 use Rattle.sc_app.specs.Surface.{SurfaceResponds}
 use Rattle.sc_app.specs.Shape.{ShapeResponds}
-use Rattle.sc_app.specs.Svg.{SvgResponds}
+use Rattle.sc_app.specs.Svg.{SvgResponds, SvgAccepts, IsSvgStatus}
 use Rattle.sc_app.specs.Check.{CheckResponds, CheckAccepts, IsCheckStatus}
 use Rattle.sc_app.specs.Scl.{SclResponds, SclAccepts, HasSeveralAnswers, IsSclStatus}
+use Rattle.sc_app.specs.Ball.{BallResponds, BallAccepts, HasSeveralBalls, IsBallStatus}
 use Rattle.sc_app.specs.Generate.{GenerateResponds, IsSolverStatus}
 
 -- what a command answers to an input that isn't over its limit: the status, and the text for `out`
@@ -27,6 +28,7 @@ Responds Shape input status text = ShapeResponds input status text
 Responds Check input status text = CheckResponds input status text
 Responds Svg input status text = SvgResponds input status text
 Responds (Scl pivots) input status text = SclResponds pivots input status text
+Responds (Ball pivots) input status text = BallResponds pivots input status text
 Responds (Generate seed letters) input status text = GenerateResponds seed letters status text
 
 -- the same for any input, by what the command reads: one that reads nothing has the empty input
@@ -46,13 +48,14 @@ Answers words input status text = (c : Command) × IsForm c words × AnswersTo c
 
 -- ---- inputs with one answer, and inputs that are accepted
 
--- the inputs that have one right answer: all but the balanced chains of `scl` and of `gen`
+-- the inputs that have one right answer: all but the balanced chains of `scl`, `ball` and `gen`
 abbrev pub IsDetermined : Command → List ℕ → Type 0
 IsDetermined Surface input = Unit {0}
 IsDetermined Shape input = Unit {0}
 IsDetermined Check input = Unit {0}
 IsDetermined Svg input = Unit {0}
 IsDetermined (Scl pivots) input = ¬ HasSeveralAnswers input
+IsDetermined (Ball pivots) input = ¬ HasSeveralBalls input
 IsDetermined (Generate seed letters) input = ⊥
 
 -- the same for any input, by what the command reads
@@ -69,8 +72,9 @@ abbrev pub Allows : Command → List ℕ → Type 0
 Allows Surface input = SaysSurface input
 Allows Shape input = SaysSurface input
 Allows Check input = CheckAccepts input
-Allows Svg input = SaysSurface input
+Allows Svg input = SvgAccepts input
 Allows (Scl pivots) input = SclAccepts input
+Allows (Ball pivots) input = BallAccepts input
 Allows (Generate seed letters) input = Unit {0}
 
 -- the same for any input, by what the command reads
@@ -86,8 +90,9 @@ abbrev pub IsOwnStatus : Command → List ℕ → Status → Type 0
 IsOwnStatus Surface input status = IsStatusOfSides status
 IsOwnStatus Shape input status = IsStatusOfSides status
 IsOwnStatus Check input status = IsCheckStatus status
-IsOwnStatus Svg input status = IsStatusOfSides status
+IsOwnStatus Svg input status = IsSvgStatus input status
 IsOwnStatus (Scl pivots) input status = IsSclStatus input status
+IsOwnStatus (Ball pivots) input status = IsBallStatus input status
 IsOwnStatus (Generate seed letters) input status = IsSolverStatus status
 
 -- an answer of the command's own to the input came, and `out` took its text

@@ -9,7 +9,7 @@ use Rattle.sc_line.specs.Faults.{between}
 use Rattle.sc_text.specs.declared.limits.TheConstants.{MAX_PIVOTS}
 use Rattle.sc_random.specs.declared.limits.TheConstants.{MAX_LETTERS}
 use Rattle.sc_app.specs.declared.command.Command.{Command}
-use Rattle.sc_app.specs.declared.command.Command.TheVariants.{Surface, Shape, Check, Svg, Scl, Generate}
+use Rattle.sc_app.specs.declared.command.Command.TheVariants.{Surface, Shape, Check, Svg, Scl, Ball, Generate}
 use Rattle.sc_app.specs.declared.limits.TheConstants.{DEFAULT_PIVOTS, MAX_SEED}
 
 -- the words as bytes
@@ -24,6 +24,7 @@ named word =
     else if bytes_eq word (codes "check") then Some Check
     else if bytes_eq word (codes "svg") then Some Svg
     else if bytes_eq word (codes "scl") then Some (Scl DEFAULT_PIVOTS)
+    else if bytes_eq word (codes "ball") then Some (Ball DEFAULT_PIVOTS)
     else None
 
 -- a natural number, where it is in a range
@@ -52,6 +53,7 @@ generate None letters = None
 abbrev pub named_with : List ℕ → List ℕ → List ℕ → Option Command
 named_with word option number =
     if bytes_eq word (codes "scl") && bytes_eq option (codes "--pivots") then option_map Scl (pivots_of number)
+    else if bytes_eq word (codes "ball") && bytes_eq option (codes "--pivots") then option_map Ball (pivots_of number)
     else if bytes_eq word (codes "gen") then generate (seed_of option) (letters_of number)
     else None
 
@@ -77,6 +79,12 @@ AreWordsOfScl n words =
     ((words ≡ codes "scl" ∷ []) × (n ≡ DEFAULT_PIVOTS))
     ⊎ ((words ≡ codes "scl" ∷ codes "--pivots" ∷ spelling (pos n) ∷ []) × (1 ≤ n) × (n ≤ MAX_PIVOTS))
 
+-- the same for `ball`
+abbrev pub AreWordsOfBall : ℕ → List (List ℕ) → Type 0
+AreWordsOfBall n words =
+    ((words ≡ codes "ball" ∷ []) × (n ≡ DEFAULT_PIVOTS))
+    ⊎ ((words ≡ codes "ball" ∷ codes "--pivots" ∷ spelling (pos n) ∷ []) × (1 ≤ n) × (n ≤ MAX_PIVOTS))
+
 -- the word `gen`, a seed and a number of letters, each in its one spelling
 abbrev pub AreWordsOfGenerate : ℕ → ℕ → List (List ℕ) → Type 0
 AreWordsOfGenerate seed letters words =
@@ -89,4 +97,5 @@ IsInRange Shape = Unit {0}
 IsInRange Check = Unit {0}
 IsInRange Svg = Unit {0}
 IsInRange (Scl n) = (1 ≤ n) × (n ≤ MAX_PIVOTS)
+IsInRange (Ball n) = (1 ≤ n) × (n ≤ MAX_PIVOTS)
 IsInRange (Generate seed letters) = (1 ≤ letters) × (letters ≤ MAX_LETTERS)

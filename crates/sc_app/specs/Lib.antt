@@ -9,6 +9,7 @@ pub mod Said
 pub mod Surface
 pub mod Shape
 pub mod Svg
+pub mod Ball
 pub mod Check
 pub mod Scl
 pub mod Generate

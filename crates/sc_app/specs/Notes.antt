@@ -13,7 +13,7 @@ line text = text ++ 10 ∷ []
 
 -- the forms of the command line
 abbrev pub usage : List ℕ
-usage = codes "surface | shape | check | svg | scl [--pivots N] | gen SEED K"
+usage = codes "surface | shape | check | svg | scl [--pivots N] | ball [--pivots N] | gen SEED K"
 
 -- the word for a kind of fault
 abbrev pub kind_name : Kind → List ℕ

@@ -2,7 +2,7 @@
 use Rattle.std.specs.Prelude.{◌≡◌, ℕ, ◌+◌, ◌^◌, ◌<◌, ◌≤◌, List, [], length, Option, None, Some, IfSome}
 use Rattle.sc_outside.specs.Told.{Delivered}
 use Rattle.sc_app.specs.declared.command.Command.{Command}
-use Rattle.sc_app.specs.declared.command.Command.TheVariants.{Surface, Shape, Check, Svg, Scl, Generate}
+use Rattle.sc_app.specs.declared.command.Command.TheVariants.{Surface, Shape, Check, Svg, Scl, Ball, Generate}
 use Rattle.sc_app.specs.declared.command.Reading.{Reading}
 use Rattle.sc_app.specs.declared.command.Reading.TheVariants.{Nothing, AtMost}
 use Rattle.sc_app.specs.declared.limits.TheConstants.{MAX_TEXT_BYTES, MAX_CHAIN_BYTES}
@@ -16,6 +16,7 @@ reads Shape = AtMost MAX_TEXT_BYTES
 reads Check = AtMost MAX_TEXT_BYTES
 reads Svg = AtMost MAX_TEXT_BYTES
 reads (Scl pivots) = AtMost MAX_CHAIN_BYTES
+reads (Ball pivots) = AtMost MAX_CHAIN_BYTES
 reads (Generate seed letters) = Nothing
 
 -- the most bytes that are read, short of one too many

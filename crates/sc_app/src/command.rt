@@ -18,11 +18,16 @@ pub enum Command {
     Shape,
     /// `check`: reads a certificate and writes its value where the surface is least.
     Check,
-    /// `svg`: reads a surface, or that of a certificate, and draws it.
+    /// `svg`: reads a surface, that of a certificate, or a fan, and draws it.
     Svg,
     /// `scl`: reads a chain and writes its stable commutator length.
     Scl {
         /// The pivots that may be made, at least 1.
+        pivots: u32,
+    },
+    /// `ball`: reads two chains and writes the unit ball between them.
+    Ball {
+        /// The pivots that may be made for each direction, at least 1.
         pivots: u32,
     },
     /// `gen`: reads nothing, and writes a summary of the solution for a chain that is drawn.
@@ -53,7 +58,7 @@ impl Command {
             Command::Surface | Command::Shape | Command::Check | Command::Svg => {
                 Reading::AtMost(MAX_TEXT_BYTES)
             }
-            Command::Scl { .. } => Reading::AtMost(MAX_CHAIN_BYTES),
+            Command::Scl { .. } | Command::Ball { .. } => Reading::AtMost(MAX_CHAIN_BYTES),
             Command::Generate { .. } => Reading::Nothing,
         }
     }
@@ -70,6 +75,9 @@ fn command_named(word: &str) -> Option<Command>
         "check" => Some(Command::Check),
         "svg" => Some(Command::Svg),
         "scl" => Some(Command::Scl {
+            pivots: DEFAULT_PIVOTS,
+        }),
+        "ball" => Some(Command::Ball {
             pivots: DEFAULT_PIVOTS,
         }),
         _ => None,
@@ -119,6 +127,9 @@ fn command_named_with(word: &str, option: &str, number: &str) -> Option<Command>
     if word == "scl" && option == "--pivots" {
         let pivots = pivots_of(number)?;
         Some(Command::Scl { pivots })
+    } else if word == "ball" && option == "--pivots" {
+        let pivots = pivots_of(number)?;
+        Some(Command::Ball { pivots })
     } else if word == "gen" {
         let seed = seed_of(option)?;
         let letters = letters_of(number)?;

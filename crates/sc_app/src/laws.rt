@@ -1,10 +1,10 @@
 //! Laws of the answers to inputs.
 
 ghost use Rattle.std.specs.Prelude.{◌≡◌, ◌↔◌, ℕ, List};
-ghost use Rattle.sc_app.specs.Forms.{IsForm, AreWordsOfScl, AreWordsOfGenerate};
+ghost use Rattle.sc_app.specs.Forms.{IsForm, AreWordsOfScl, AreWordsOfBall, AreWordsOfGenerate};
 ghost use Rattle.sc_app.specs.Answers.{Answers, HasOneAnswer};
 ghost use Rattle.sc_app.specs.declared.command.Command.{Command};
-ghost use Rattle.sc_app.specs.declared.command.Command.TheVariants.{Scl, Generate};
+ghost use Rattle.sc_app.specs.declared.command.Command.TheVariants.{Scl, Ball, Generate};
 ghost use Rattle.sc_app.specs.declared.status.Status.{Status};
 
 /// No input that has one answer has two: the same words and the same input give one status and one text.
@@ -24,6 +24,11 @@ pub fn an_input_has_an_answer()
 /// The forms of `scl`: the word alone, or with the option `--pivots` and a number.
 pub fn scl_has_two_forms()
     ensures { (n : ℕ) (words : List (List ℕ)) → IsForm (Scl n) words ↔ AreWordsOfScl n words }
+{}
+
+/// The forms of `ball`: the word alone, or with the option `--pivots` and a number.
+pub fn ball_has_two_forms()
+    ensures { (n : ℕ) (words : List (List ℕ)) → IsForm (Ball n) words ↔ AreWordsOfBall n words }
 {}
 
 /// The form of `gen`: the word, a seed and a number of letters.

@@ -3,6 +3,7 @@
 
 mod answer;
 mod arguments;
+mod ball;
 mod check;
 mod command;
 mod generate;
@@ -22,11 +23,14 @@ mod svg;
 pub use arguments::words_of_program;
 pub use command::{Command, Reading, command_of};
 pub use laws::{
-    an_input_has_an_answer, an_input_has_at_most_one_answer, gen_has_one_form, scl_has_two_forms,
+    an_input_has_an_answer, an_input_has_at_most_one_answer, ball_has_two_forms, gen_has_one_form,
+    scl_has_two_forms,
 };
 pub use program::{run, run_to_code};
 pub use status::{Status, What};
 
+#[cfg(test)]
+mod ball_tests;
 #[cfg(test)]
 mod near_limits;
 #[cfg(test)]

@@ -2,13 +2,13 @@
 
 ghost use Rattle.std.specs.Prelude.{◌≡◌};
 
-/// The bytes of the text of a surface or a certificate.
+/// The bytes of the text of a surface, a certificate or a fan.
 pub const MAX_TEXT_BYTES: usize = 67_108_864;
 
-/// The bytes of a chain text.
+/// The bytes of a chain text, and of a text of two chains.
 pub const MAX_CHAIN_BYTES: usize = 65_536;
 
-/// The pivots that `scl` may make where the words name no number.
+/// The pivots that `scl` may make, and `ball` for each direction, where the words name no number.
 pub const DEFAULT_PIVOTS: u32 = 20_000;
 
 /// The greatest seed of `gen`: 2^64 - 1.

@@ -52,7 +52,7 @@ fn note_of_status(status: &Status) -> Note
     match status {
         Status::Done => plain(b""),
         Status::Usage => plain(
-            b"scallop: usage: surface | shape | check | svg | scl [--pivots N] | gen SEED K\n",
+            b"scallop: usage: surface | shape | check | svg | scl [--pivots N] | ball [--pivots N] | gen SEED K\n",
         ),
         Status::Malformed { line, kind } => Note {
             before: b"scallop: malformed line ",

@@ -11,6 +11,7 @@ ghost use Rattle.sc_app.specs.Reading.{reads, given, input_for, most_turns, most
 ghost use Rattle.sc_app.specs.Notes.{note_of};
 ghost use Rattle.sc_app.specs.Answers.{Responds, Answers, HasOneAnswer, IsAccepted, IsOwnAnswer, EndsBy, MayAnswer, TookUpTo, IsCall};
 ghost use Rattle.sc_app.specs.Check.{ShowsLeast};
+ghost use Rattle.sc_app.specs.Ball.{OfItsChains, DoneFor, IsStopped};
 ghost use Rattle.sc_app.specs.Generate.{GenerateResponds};
 ghost use Rattle.sc_app.specs.Scl.{ShowsScl, OfItsChain, IsInfinite, IsSolved, IsOverBudget, IsTooWide, HasTooManySides};
 ghost use Rattle.sc_app.specs.declared.command.Command.{Command as AnyCommand};
@@ -19,6 +20,7 @@ ghost use Rattle.sc_app.specs.declared.command.Reading.TheVariants as readings;
 ghost use Rattle.sc_app.specs.declared.status.Status.{Status as AnyStatus};
 
 use crate::answer::Answer;
+use crate::ball::answer_ball;
 use crate::check::answer_check;
 use crate::command::{Command, Reading, command_of};
 use crate::generate::answer_generate;
@@ -43,6 +45,7 @@ fn respond(alloc: Global, command: Command, input: &[u8]) -> Result<Answer, Allo
         Command::Check => answer_check(alloc, input),
         Command::Svg => answer_svg(alloc, input),
         Command::Scl { pivots } => answer_scl(alloc, pivots, input),
+        Command::Ball { pivots } => answer_ball(alloc, pivots, input),
         Command::Generate { seed, letters } => answer_generate(alloc, seed, letters),
     }
 }
@@ -212,6 +215,21 @@ pub fn run<S: Source, O: Sink, E: Sink>(
     // Wide and Sides come with the evidence that `scl` shows for that chain.
     ensures generated { (seed letters : ℕ) → IsForm (commands.Generate seed letters) (bytes_of words.now.items) → IsDecided result
         → (text : List ℕ) × GenerateResponds seed letters result text × Took (O.taken out.old) (O.taken out.new) text }
+    // Where `ball` is done, `out` took one of three texts. It is `infinite first G T` where the first chain isn't balanced, with its first
+    // generator whose total isn't 0 and that total; `infinite second G T` where the first is balanced and the second isn't; and else the
+    // text of the fan of the two cyclically reduced chains, in the ranges of one that is read: its corners are primitive directions from
+    // 0, -1 through 1, 0 to 0, 1 with their values, each edge's list covers its quadrant's chain, is tight at both ends, and tells the
+    // values on the whole cone between them.
+    ensures ball { result ≡ Status.Done → (pivots : ℕ) → IsForm (commands.Ball pivots) (bytes_of words.now.items) → IfSome (S.left source.old)
+        (λ input. (text : List ℕ) × OfItsChains input (λ first second. DoneFor first second text) × Took (O.taken out.old) (O.taken out.new) text) }
+    // Budget, Wide and Sides come for two balanced chains alone, and the text that `out` took shows the search so far and what stopped
+    // it: a direction at which `scl`'s evidence comes for its chain, a crossing that is too wide, or a next direction of too great length.
+    ensures ball_budget { result ≡ Status.Budget → (pivots : ℕ) → IsForm (commands.Ball pivots) (bytes_of words.now.items) → IfSome (S.left source.old)
+        (λ input. (text : List ℕ) × OfItsChains input (λ first second. IsStopped first second pivots Status.Budget text) × Took (O.taken out.old) (O.taken out.new) text) }
+    ensures ball_wide { result ≡ Status.Wide → (pivots : ℕ) → IsForm (commands.Ball pivots) (bytes_of words.now.items) → IfSome (S.left source.old)
+        (λ input. (text : List ℕ) × OfItsChains input (λ first second. IsStopped first second pivots Status.Wide text) × Took (O.taken out.old) (O.taken out.new) text) }
+    ensures ball_sides { result ≡ Status.Sides → (pivots : ℕ) → IsForm (commands.Ball pivots) (bytes_of words.now.items) → IfSome (S.left source.old)
+        (λ input. (text : List ℕ) × OfItsChains input (λ first second. IsStopped first second pivots Status.Sides text) × Took (O.taken out.old) (O.taken out.new) text) }
     // After a fault of `out` it has taken a part of the text of an answer.
     ensures broken { result ≡ Status.WriteFault → IfSome (input_for (bytes_of words.now.items) (S.left source.old)) (λ input.
         (status : AnyStatus) × (text : List ℕ)

@@ -58,7 +58,7 @@ fn prints_the_worked_certificates(rt: HostRuntime) -> Result<(), Fail> {
 }
 
 /// What `scl` prints for a chain, and what `check` says of it.
-fn solve_and_check(
+pub(crate) fn solve_and_check(
     alloc: Global,
     line: &str,
     input: &[u8],

@@ -53,6 +53,23 @@ const DRAWING: &str = "<svg xmlns=\"http://www.w3.org/2000/svg\" viewBox=\"0 0 8
     <text x=\"40\" y=\"66\" font-size=\"12\">A</text>\n\
     </svg>\n";
 
+/// The unit ball of two commutators without common letters.
+pub(crate) const FAN: &[u8] =
+    b"scallop fan 1\nfirst 1\nword 1 abAB\nsecond 1\nword 1 cdCD\ncorners 3\ncorner 0 -1 1/2\n\
+    corner 1 0 1/2\ncorner 0 1 1/2\nedges 2\nedge 0\nscale 1\nbase 1\nbase 1\npair 0 2 -9\npair 1 3 -9\n\
+    pair 4 6 -9\npair 5 7 -9\nedge 1\nscale 1\nbase 1\nbase 1\npair 0 2 -9\npair 1 3 -9\npair 4 6 -9\n\
+    pair 5 7 -9\nend\n";
+
+const FAN_DRAWING: &str =
+    "<svg xmlns=\"http://www.w3.org/2000/svg\" viewBox=\"-1000 -1000 2000 2000\">\n\
+    <line x1=\"-1000\" y1=\"0\" x2=\"1000\" y2=\"0\" stroke=\"gray\"/>\n\
+    <line x1=\"0\" y1=\"-1000\" x2=\"0\" y2=\"1000\" stroke=\"gray\"/>\n\
+    <line x1=\"0\" y1=\"900\" x2=\"900\" y2=\"0\" stroke=\"black\" stroke-width=\"4\"/>\n\
+    <line x1=\"0\" y1=\"-900\" x2=\"-900\" y2=\"0\" stroke=\"black\" stroke-width=\"4\"/>\n\
+    <line x1=\"900\" y1=\"0\" x2=\"0\" y2=\"-900\" stroke=\"black\" stroke-width=\"4\"/>\n\
+    <line x1=\"-900\" y1=\"0\" x2=\"0\" y2=\"900\" stroke=\"black\" stroke-width=\"4\"/>\n\
+    </svg>\n";
+
 /// How the streams of a call behave: bytes a reading call, reading calls that fail, bytes a writing call, writing calls
 /// that fail.
 #[derive(Clone, Copy)]
@@ -125,6 +142,10 @@ fn answers_what_the_commands_say(rt: HostRuntime) -> Result<(), Fail> {
     let letter = Status::Malformed {
         line: 2,
         kind: Kind::Letter,
+    };
+    let range = Status::Malformed {
+        line: 6,
+        kind: Kind::Range,
     };
     let cases = [
         (
@@ -206,9 +227,24 @@ fn answers_what_the_commands_say(rt: HostRuntime) -> Result<(), Fail> {
             "scallop: rejected\n",
         ),
         ("svg", ANNULUS_CERTIFICATE, Status::Done, DRAWING, ""),
+        ("svg", FAN, Status::Done, FAN_DRAWING, ""),
         (
             "svg",
-            b"scallop fan 1\n".as_slice(),
+            b"scallop fan 1\nfirst 0\nsecond 0\ncorners 3\ncorner 0 -1 1/2\ncorner 0 0 1/2\n".as_slice(),
+            range,
+            "",
+            "scallop: malformed line 6 range\n",
+        ),
+        (
+            "svg",
+            b"scallop fan 1".as_slice(),
+            ended,
+            "",
+            "scallop: malformed line 1 ended\n",
+        ),
+        (
+            "svg",
+            b"scallop fan 2\n".as_slice(),
             form,
             "",
             "scallop: malformed line 1 form\n",
@@ -240,14 +276,14 @@ fn answers_what_the_commands_say(rt: HostRuntime) -> Result<(), Fail> {
             b"".as_slice(),
             Status::Usage,
             "",
-            "scallop: usage: surface | shape | check | svg | scl [--pivots N] | gen SEED K\n",
+            "scallop: usage: surface | shape | check | svg | scl [--pivots N] | ball [--pivots N] | gen SEED K\n",
         ),
         (
             "x",
             b"".as_slice(),
             Status::Usage,
             "",
-            "scallop: usage: surface | shape | check | svg | scl [--pivots N] | gen SEED K\n",
+            "scallop: usage: surface | shape | check | svg | scl [--pivots N] | ball [--pivots N] | gen SEED K\n",
         ),
     ];
     for (word, input, status, out, notes) in cases {
@@ -383,6 +419,15 @@ fn knows_its_forms_and_codes(rt: HostRuntime) -> Result<(), Fail> {
         ("surface", Some(Command::Surface)),
         ("shape", Some(Command::Shape)),
         ("svg", Some(Command::Svg)),
+        ("ball", Some(Command::Ball { pivots: 20_000 })),
+        ("ball --pivots 1", Some(Command::Ball { pivots: 1 })),
+        (
+            "ball --pivots 50000",
+            Some(Command::Ball { pivots: 50_000 }),
+        ),
+        ("ball --pivots 50001", None),
+        ("ball --pivots 01", None),
+        ("ball 1", None),
         ("check", Some(Command::Check)),
         ("scl", Some(Command::Scl { pivots: 20_000 })),
         ("scl --pivots 1", Some(Command::Scl { pivots: 1 })),
@@ -457,7 +502,7 @@ fn code(
 #[test]
 fn ends_with_the_code_of_the_status(rt: HostRuntime) -> Result<(), Fail> {
     let usage =
-        b"scallop: usage: surface | shape | check | svg | scl [--pivots N] | gen SEED K\n".as_slice();
+        b"scallop: usage: surface | shape | check | svg | scl [--pivots N] | ball [--pivots N] | gen SEED K\n".as_slice();
     let report = b"vertices 1\nedges 2\neuler -1\nfraction 1/2\n".as_slice();
     let (ended, written, noted) = code(rt.alloc(), None, COMMUTATOR)?;
     assert_eq!(rt; ended, 10);

@@ -1,8 +1,8 @@
 use Rattle.std.proofs.Common.{refl}
 use Rattle.sc_app.specs.declared.status.Status.TheVariants.{Done, Budget, Wide, Sides}
-use Rattle.sc_app.specs.declared.command.Command.TheVariants.{Check, Scl, Generate}
+use Rattle.sc_app.specs.declared.command.Command.TheVariants.{Check, Scl, Ball, Generate}
 use Rattle.sc_app.proofs.Calls as calls
-use Rattle.sc_app.proofs.Least.{least, headline, solved, over_budget, too_wide, too_many_sides}
+use Rattle.sc_app.proofs.Least.{least, headline, solved, over_budget, too_wide, too_many_sides, ball_between, ball_stopped}
 use Rattle.sc_app.proofs.program.run.Goals as goal
 
 pub returns-clause-usage : goal.returns-clause-usage
@@ -76,3 +76,23 @@ returns-clause-sides g c = λ e n form.
 
 pub returns-clause-generated : goal.returns-clause-generated
 returns-clause-generated g c = λ seed letters form decided. calls.answer_of _ _ _ _ _ _ _ _ _ _ c.serve_words-status.ensures.answer (Generate seed letters) form decided
+
+pub returns-clause-ball : goal.returns-clause-ball
+returns-clause-ball g c = λ e n form.
+    ball_between n (g.S.Source.left c.args.source.now) (g.O.Sink.taken c.args.out.now) (g.O.Sink.taken c.serve_words-status.new.out)
+    (calls.told _ _ _ _ _ _ _ _ _ _ c.serve_words-status.ensures.answer (Ball n) Done form refl e)
+
+pub returns-clause-ball_budget : goal.returns-clause-ball_budget
+returns-clause-ball_budget g c = λ e n form.
+    ball_stopped n Budget (g.S.Source.left c.args.source.now) (g.O.Sink.taken c.args.out.now) (g.O.Sink.taken c.serve_words-status.new.out) tt
+    (calls.told _ _ _ _ _ _ _ _ _ _ c.serve_words-status.ensures.answer (Ball n) Budget form refl e)
+
+pub returns-clause-ball_wide : goal.returns-clause-ball_wide
+returns-clause-ball_wide g c = λ e n form.
+    ball_stopped n Wide (g.S.Source.left c.args.source.now) (g.O.Sink.taken c.args.out.now) (g.O.Sink.taken c.serve_words-status.new.out) tt
+    (calls.told _ _ _ _ _ _ _ _ _ _ c.serve_words-status.ensures.answer (Ball n) Wide form refl e)
+
+pub returns-clause-ball_sides : goal.returns-clause-ball_sides
+returns-clause-ball_sides g c = λ e n form.
+    ball_stopped n Sides (g.S.Source.left c.args.source.now) (g.O.Sink.taken c.args.out.now) (g.O.Sink.taken c.serve_words-status.new.out) tt
+    (calls.told _ _ _ _ _ _ _ _ _ _ c.serve_words-status.ensures.answer (Ball n) Sides form refl e)

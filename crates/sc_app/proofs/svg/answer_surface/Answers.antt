@@ -3,7 +3,7 @@ use Rattle.sc_app.specs.Said.{IsSaid}
 use Rattle.sc_app.specs.Svg.{IsPicture}
 use Rattle.sc_app.specs.Answer.{status_of, text_of}
 use Rattle.sc_app.proofs.Reports.{told, refused}
-use Rattle.sc_app.proofs.svg.answer_svg.Goals as goal
+use Rattle.sc_app.proofs.svg.answer_surface.Goals as goal
 
 pub returns-in_ok-draw-in-Surface : goal.returns-in_ok-draw-in-Surface
 returns-in_ok-draw-in-Surface c =
