@@ -28,12 +28,3 @@ pub use laws::{
 };
 pub use program::{run, run_to_code};
 pub use status::{Status, What};
-
-#[cfg(test)]
-mod ball_tests;
-#[cfg(test)]
-mod near_limits;
-#[cfg(test)]
-mod scl_tests;
-#[cfg(test)]
-mod tests;

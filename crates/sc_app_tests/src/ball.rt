@@ -1,9 +1,8 @@
 //! The command `ball` from bytes to bytes.
 
-use crate::Status;
-use crate::scl_tests::solve_and_check;
-use crate::status::What;
-use crate::tests::{CALM, FAN, call};
+use crate::commands::{CALM, FAN, call};
+use crate::scl::solve_and_check;
+use sc_app::{Status, What};
 use sc_chain::Kind;
 use std::test::Fail;
 

@@ -1,6 +1,6 @@
 //! The program from bytes to bytes.
 
-use crate::{Command, Reading, Status, What, command_of, run, run_to_code};
+use sc_app::{Command, Reading, Status, What, command_of, run, run_to_code};
 use sc_chain::Kind;
 use sc_fatgraph::FlawKind;
 use sc_outside::{MemorySink, MemorySource, StdSink, StdSource};

@@ -1,6 +1,6 @@
 //! Inputs near the limits: a body that gives up where an input isn't small meets every clause, and is refused here.
 
-use crate::{Status, What, run};
+use sc_app::{Status, What, run};
 use sc_chain::Kind;
 use sc_outside::{MemorySink, MemorySource};
 use sc_whole::print_decimal;

@@ -1,7 +1,7 @@
 //! The commands `scl` and `gen` from bytes to bytes: certificates that `check` accepts, summaries, and refusals.
 
-use crate::Status;
-use crate::tests::{CALM, Streams, call};
+use crate::commands::{CALM, Streams, call};
+use sc_app::Status;
 use std::alloc::{AllocError, Global};
 use std::test::Fail;
 
