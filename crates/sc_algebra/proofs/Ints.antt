@@ -35,9 +35,6 @@ mul_assoc a b c =
 pub mul_left_comm : (a b c : ℤ) → a *ℤ (b *ℤ c) ≡ b *ℤ (a *ℤ c)
 mul_left_comm a b c = sym (mul_assoc a b c) ∙ ap (λ (t : ℤ). t *ℤ c) (mul_comm a b) ∙ mul_assoc b a c
 
-pub mul_right_comm : (a b c : ℤ) → (a *ℤ b) *ℤ c ≡ (a *ℤ c) *ℤ b
-mul_right_comm a b c = mul_assoc a b c ∙ ap (λ (t : ℤ). a *ℤ t) (mul_comm b c) ∙ sym (mul_assoc a c b)
-
 pub mul-zero : (a : ℤ) → a *ℤ pos 0 ≡ pos 0
 mul-zero a = omega (arith, ints)
 
@@ -56,17 +53,10 @@ pos-mul m n = refl
 pub pos-add : (m n : ℕ) → pos (m + n) ≡ pos m +ℤ pos n
 pos-add m n = refl
 
--- (n + 1) a = n a + a
-pub mul-suc : (n : ℕ) (a : ℤ) → a *ℤ pos (suc n) ≡ a *ℤ pos n +ℤ a
-mul-suc n a = omega (arith, ints)
-
 pub suc-mul : (n : ℕ) (a : ℤ) → pos (suc n) *ℤ a ≡ pos n *ℤ a +ℤ a
 suc-mul n a = omega (arith, ints)
 
 -- ---- order
-pub le_refl : (a : ℤ) → a ≤ℤ a
-le_refl a = omega (arith, ints)
-
 pub le_trans : (a b c : ℤ) → a ≤ℤ b → b ≤ℤ c → a ≤ℤ c
 le_trans a b c h k = omega (arith, ints)
 
@@ -75,12 +65,6 @@ le_antisymm a b h k = omega (arith, ints)
 
 pub le_of_eq : (a b : ℤ) → a ≡ b → a ≤ℤ b
 le_of_eq a b h = omega (arith, ints)
-
-pub add-le : (a b c d : ℤ) → a ≤ℤ b → c ≤ℤ d → (a +ℤ c) ≤ℤ (b +ℤ d)
-add-le a b c d h k = omega (arith, ints)
-
-pub neg-le : (a b : ℤ) → a ≤ℤ b → neg_ℤ b ≤ℤ neg_ℤ a
-neg-le a b h = omega (arith, ints)
 
 pub pos-le : (m n : ℕ) → m ≤ n → pos m ≤ℤ pos n
 pos-le m n h = omega (arith, ints)
@@ -123,9 +107,3 @@ cancel_factor (negsuc n) a b p h = cancel (suc n) a b (omega arith) (omega (arit
 -- ---- For `simp`: a sum of products, each bracketed to the right with its factors in one order. What is then left is linear in the
 -- products: `simp products (omega (arith, ints))`.
 pub ruleset products = (mul_add, add_mul, mul_neg, neg_mul, neg_ℤ-+ℤ, neg_ℤ-neg_ℤ, mul_assoc, mul_comm, mul_left_comm)
-
-square_of_sum : (a b : ℤ) → (a +ℤ b) *ℤ (a +ℤ b) ≡ a *ℤ a +ℤ (a *ℤ b +ℤ a *ℤ b) +ℤ b *ℤ b
-square_of_sum a b = simp products (omega (arith, ints))
-
-turned : (a b c d : ℤ) → ((a -ℤ b) *ℤ c) *ℤ d ≡ d *ℤ (c *ℤ a) -ℤ (c *ℤ d) *ℤ b
-turned a b c d = simp products (omega (arith, ints))

@@ -1,5 +1,5 @@
 -- Laws of sums and counts over the numbers below a bound.
-use Rattle.std.specs.Prelude.{◌≡◌, ◌≢◌, ◌⊎◌, ℕ, zero, suc, ◌+◌, ◌<◌, ◌≤◌, Bool, true, false, cond, not, if◌then◌else◌, ◌==◌, ℤ, pos, ◌+ℤ◌, ◌-ℤ◌, ◌*ℤ◌, neg_ℤ, ◌≤ℤ◌, List, [], ◌∷◌, length, get_or, sum_by, count_by, fold}
+use Rattle.std.specs.Prelude.{◌≡◌, ◌≢◌, ◌⊎◌, ℕ, zero, suc, ◌+◌, ◌<◌, ◌≤◌, Bool, true, false, cond, not, if◌then◌else◌, ◌==◌, ℤ, pos, ◌+ℤ◌, ◌-ℤ◌, ◌*ℤ◌, neg_ℤ, ◌≤ℤ◌, List, [], ◌∷◌, length, get_or, sum_by, count_by}
 use Rattle.std.proofs.Common.{arith, refl, sym, ap, ap₂, ◌∙◌, inl, inr, add-zero, add-suc, eq-eqb, ne_eqb}
 use Rattle.std.proofs.lemmas.Int.{ints}
 use Rattle.std.proofs.lemmas.Bool.{cases_eq, cases_Bool}
@@ -27,10 +27,6 @@ sum-sub f g (suc n) = omega (arith, ints, sum-sub f g n)
 pub sum-mul_left : (a : ℤ) (f : ℕ → ℤ) (n : ℕ) → sum_below (λ k. a *ℤ f k) n ≡ a *ℤ sum_below f n
 sum-mul_left a f zero = omega (arith, ints)
 sum-mul_left a f (suc n) = ap (λ (x : ℤ). x +ℤ a *ℤ f n) (sum-mul_left a f n) ∙ sym (mul_add a (sum_below f n) (f n))
-
-pub sum-mul_right : (a : ℤ) (f : ℕ → ℤ) (n : ℕ) → sum_below (λ k. f k *ℤ a) n ≡ sum_below f n *ℤ a
-sum-mul_right a f zero = omega (arith, ints)
-sum-mul_right a f (suc n) = ap (λ (x : ℤ). x +ℤ f n *ℤ a) (sum-mul_right a f n) ∙ sym (add_mul (sum_below f n) (f n) a)
 
 pub sum-const : (a : ℤ) (n : ℕ) → sum_below (λ k. a) n ≡ pos n *ℤ a
 sum-const a zero = omega (arith, ints)
@@ -94,14 +90,6 @@ pub count-none : (p : ℕ → Bool) (n : ℕ) → ((k : ℕ) → k < n → p k �
 count-none p zero h = refl
 count-none p (suc n) h = rw (h n (omega arith)) (omega (arith, count-none p n (λ k l. h k (omega arith))))
 
-pub count-mono : (p q : ℕ → Bool) (n : ℕ) → ((k : ℕ) → k < n → p k ≡ true → q k ≡ true) → count_below p n ≤ count_below q n
-count-mono p q zero h = omega arith
-count-mono p q (suc n) h =
-    elim (cases_Bool (p n)) [
-      | inl e ↦ rw (e, h n (omega arith) e) (omega (arith, count-mono p q n (λ k l. h k (omega arith))))
-      | inr e ↦ rw e (omega (arith, count-mono p q n (λ k l. h k (omega arith))))
-    ]
-
 -- what passes and what fails make up all
 pub count-not : (p : ℕ → Bool) (n : ℕ) → count_below p n + count_below (λ k. not (p k)) n ≡ n
 count-not p zero = refl
@@ -130,14 +118,7 @@ pub count_first : (p : ℕ → Bool) (n : ℕ) → count_below p (suc n) ≡ (if
 count_first p zero = omega arith
 count_first p (suc n) = omega (arith, count_first p n)
 
--- ---- counts of pairs and of values
--- the pairs that pass, counted by their first numbers and by their second
-pub count-exchange : (p : ℕ → ℕ → Bool) (n m : ℕ) → sum_below (λ s. pos (count_below (λ i. p s i) m)) n ≡ sum_below (λ i. pos (count_below (λ s. p s i) n)) m
-count-exchange p n m =
-    sum-congr (λ s. pos (count_below (λ i. p s i) m)) (λ s. sum_below (λ i. if p s i then pos 1 else pos 0) m) n (λ s l. count-sum (λ i. p s i) m)
-    ∙ sum-exchange (λ s i. if p s i then pos 1 else pos 0) n m
-    ∙ sym (sum-congr (λ i. pos (count_below (λ s. p s i) n)) (λ i. sum_below (λ s. if p s i then pos 1 else pos 0) n) m (λ i l. count-sum (λ s. p s i) n))
-
+-- ---- counts of values
 -- the one number below m that v is
 value_term : (g : ℕ → ℤ) (v m : ℕ) → v < m → sum_below (λ i. pos (if v == i then 1 else 0) *ℤ g i) m ≡ g v
 value_term g v m l =
@@ -184,15 +165,6 @@ count-list p (x ∷ xs) d =
     ∙ ap (λ (y : ℕ). cond (p x) 1 0 + y) (count-list p xs d)
     ∙ sym (sum_by-cons (λ (y : _). cond (p y) 1 0) x xs)
 
--- a sum of whole numbers over a list, as a fold
-pub fold_from : {X : Type 0} (f : X → ℤ) (a : ℤ) (xs : List X) → fold (λ s x. s +ℤ f x) a xs ≡ a +ℤ fold (λ s x. s +ℤ f x) (pos 0) xs
-fold_from f a [] = omega (arith, ints)
-fold_from f a (x ∷ xs) = omega (arith, ints, fold_from f (a +ℤ f x) xs, fold_from f (pos 0 +ℤ f x) xs)
-
-pub sum-fold : {X : Type 0} (f : X → ℤ) (xs : List X) (d : X) → sum_below (λ k. f (get_or xs k d)) (length xs) ≡ fold (λ s x. s +ℤ f x) (pos 0) xs
-sum-fold f [] d = refl
-sum-fold f (x ∷ xs) d = omega (arith, ints, sum_first (λ k. f (get_or (x ∷ xs) k d)) (length xs), sum-fold f xs d, fold_from f (pos 0 +ℤ f x) xs)
-
 -- ---- sums that are cut or picked out
 -- block by block: the block number w begins at `starts w` and has `sizes w` numbers
 pub sum_blocks : (f : ℕ → ℤ) (starts sizes : ℕ → ℕ) (m : ℕ) → starts 0 ≡ 0 → ((w : ℕ) → w < m → starts (suc w) ≡ starts w + sizes w) → sum_below f (starts m) ≡ sum_below (λ w. sum_below (λ k. f (starts w + k)) (sizes w)) m
@@ -201,17 +173,6 @@ sum_blocks f starts sizes (suc m) first step =
     ap (sum_below f) (step m (omega arith))
     ∙ sum-append f (starts m) (sizes m)
     ∙ ap (λ (x : ℤ). x +ℤ sum_below (λ k. f (starts m + k)) (sizes m)) (sum_blocks f starts sizes m first (λ w l. step w (omega arith)))
-
--- a weight for each second number, as often as a pair with it passes
-pub count_weighed : (p : ℕ → ℕ → Bool) (g : ℕ → ℤ) (n m : ℕ) → sum_below (λ i. pos (count_below (λ s. p s i) n) *ℤ g i) m ≡ sum_below (λ s. sum_below (λ i. if p s i then g i else pos 0) m) n
-count_weighed p g zero m = sum_zero_each (λ i. pos 0 *ℤ g i) m (λ i l. omega (arith, ints))
-count_weighed p g (suc n) m =
-    sum-congr (λ i. pos (count_below (λ s. p s i) (suc n)) *ℤ g i) (λ i. pos (count_below (λ s. p s i) n) *ℤ g i +ℤ (if p n i then g i else pos 0)) m (λ i l. one_more i)
-    ∙ sum-add (λ i. pos (count_below (λ s. p s i) n) *ℤ g i) (λ i. if p n i then g i else pos 0) m
-    ∙ ap (λ (x : ℤ). x +ℤ sum_below (λ i. if p n i then g i else pos 0) m) (count_weighed p g n m)
-  where
-    one_more : (i : ℕ) → pos (count_below (λ s. p s i) n + (if p n i then 1 else 0)) *ℤ g i ≡ pos (count_below (λ s. p s i) n) *ℤ g i +ℤ (if p n i then g i else pos 0)
-    one_more i = elim (cases_Bool (p n i)) [ inl e ↦ rw e (omega (arith, ints)) | inr e ↦ rw e (omega (arith, ints)) ]
 
 -- f is 0 but at the places `at w`, no two of which are the same
 pub sum_at_places : (f : ℕ → ℤ) (at : ℕ → ℕ) (n m : ℕ) → ((w : ℕ) → w < m → at w < n) → ((v w : ℕ) → v < m → w < m → at v ≡ at w → v ≡ w) → ((k : ℕ) → k < n → (f k ≡ pos 0) ⊎ ((w : ℕ) × (w < m) × (at w ≡ k))) → sum_below f n ≡ sum_below (λ w. f (at w)) m

@@ -1,8 +1,8 @@
 -- Products of lists: linear in each factor; the product with a unit is an entry.
-use Rattle.std.specs.Prelude.{◌≡◌, ◌≢◌, ℕ, ◌<◌, ℤ, pos, ◌+ℤ◌, ◌-ℤ◌, ◌*ℤ◌}
+use Rattle.std.specs.Prelude.{◌≡◌, ◌≢◌, ℕ, ◌<◌, ℤ, pos, ◌+ℤ◌, ◌*ℤ◌}
 use Rattle.std.proofs.Common.{arith, refl, ap₂, ◌∙◌, eq-eqb, ne_eqb}
 use Rattle.std.proofs.lemmas.Int.{ints}
-use Rattle.sc_algebra.proofs.Sums.{sum-congr, sum-add, sum-sub, sum-mul_left, sum-single}
+use Rattle.sc_algebra.proofs.Sums.{sum-congr, sum-add, sum-mul_left, sum-single}
 use Rattle.sc_algebra.proofs.Ints.{products, mul_comm}
 use Rattle.sc_basis.specs.Products.{dot, unit}
 
@@ -29,11 +29,6 @@ dot-add r x y v =
     sum-congr (λ k. (x k +ℤ y k) *ℤ v k) (λ k. x k *ℤ v k +ℤ y k *ℤ v k) r (λ k l. simp products (omega (arith, ints)))
     ∙ sum-add (λ k. x k *ℤ v k) (λ k. y k *ℤ v k) r
 
-pub dot-sub : (r : ℕ) (x y v : ℕ → ℤ) → dot r (λ k. x k -ℤ y k) v ≡ dot r x v -ℤ dot r y v
-dot-sub r x y v =
-    sum-congr (λ k. (x k -ℤ y k) *ℤ v k) (λ k. x k *ℤ v k -ℤ y k *ℤ v k) r (λ k l. simp products (omega (arith, ints)))
-    ∙ sum-sub (λ k. x k *ℤ v k) (λ k. y k *ℤ v k) r
-
 pub dot-mul : (r : ℕ) (a : ℤ) (x v : ℕ → ℤ) → dot r (λ k. a *ℤ x k) v ≡ a *ℤ dot r x v
 dot-mul r a x v =
     sum-congr (λ k. (a *ℤ x k) *ℤ v k) (λ k. a *ℤ (x k *ℤ v k)) r (λ k l. simp products (omega (arith, ints)))
@@ -43,8 +38,3 @@ dot-mul r a x v =
 pub dot-combine : (r : ℕ) (a b : ℤ) (x y v : ℕ → ℤ) → dot r (λ k. a *ℤ x k +ℤ b *ℤ y k) v ≡ a *ℤ dot r x v +ℤ b *ℤ dot r y v
 dot-combine r a b x y v =
     dot-add r (λ k. a *ℤ x k) (λ k. b *ℤ y k) v ∙ ap₂ (λ (s t : ℤ). s +ℤ t) (dot-mul r a x v) (dot-mul r b y v)
-
--- a x - b y
-pub dot-difference : (r : ℕ) (a b : ℤ) (x y v : ℕ → ℤ) → dot r (λ k. a *ℤ x k -ℤ b *ℤ y k) v ≡ a *ℤ dot r x v -ℤ b *ℤ dot r y v
-dot-difference r a b x y v =
-    dot-sub r (λ k. a *ℤ x k) (λ k. b *ℤ y k) v ∙ ap₂ (λ (s t : ℤ). s -ℤ t) (dot-mul r a x v) (dot-mul r b y v)

@@ -12,9 +12,6 @@ use Rattle.sc_basis.proofs.ProductLaws.{dot-unit}
 pub item-units : (r j : ℕ) → j < r → item (unit_basis r) j ≡ None
 item-units r j inside = get_or-replicate r j None None inside
 
-pub columns-units : (r j k : ℕ) → j < r → columns (unit_basis r) j k ≡ unit j k
-columns-units r j k inside = ap (λ o. entries_at j o k) (item-units r j inside)
-
 pub dot-columns-units : (r j : ℕ) (x : ℕ → ℤ) → j < r → dot r x (columns (unit_basis r) j) ≡ x j
 dot-columns-units r j x inside = ap (λ o. dot r x (entries_at j o)) (item-units r j inside) ∙ dot-unit r j x inside
 

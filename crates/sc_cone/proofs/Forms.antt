@@ -35,9 +35,6 @@ weighed_times a (u ∷ c) f =
     ∙ one_more (pos a) (pos u.0) (f 0) (weighed c (λ w. f (suc w)))
     ∙ ap (λ (t : ℤ). pos a *ℤ t) (sym (weighed_first u c f))
 
-grouped : (p x s y : ℤ) → p *ℤ x +ℤ (p *ℤ s +ℤ y) ≡ p *ℤ (x +ℤ s) +ℤ y
-grouped p x s y = simp products (omega (arith, ints))
-
 weighed_cone : (a b : ℕ) (c d : Chain) (f : ℕ → ℤ) → weighed (cone c d a b) f ≡ pos a *ℤ weighed c f +ℤ pos b *ℤ weighed d (λ w. f (length c + w))
 weighed_cone a b [] d f =
     weighed_times b d f

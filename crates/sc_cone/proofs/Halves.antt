@@ -23,10 +23,6 @@ tight_moved first second q r l m d e of_q of_l of_d tight =
 value_at : (first second : Chain) (q : Quadrant) (c d : Corner) → c ≡ d → IsValueOf (chain_of q first second c.direction) c.value.0 c.value.1 → IsValueOf (chain_of q first second d.direction) d.value.0 d.value.1
 value_at first second q c d e v = subst (λ (x : Corner). IsValueOf (chain_of q first second x.direction) x.value.0 x.value.1) e v
 
-right_of : (q : Quadrant) (d : Direction) → IsIn q d → pos 0 ≤ℤ d.s
-right_of Lower d is = is.0
-right_of Upper d is = is.0
-
 other_side : Lower ≡ Upper → ⊥
 other_side e = cc
 
