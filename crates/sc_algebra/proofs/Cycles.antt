@@ -10,10 +10,12 @@ use Rattle.sc_algebra.proofs.Sums.{sum-add, sum-single}
 use Rattle.sc_algebra.proofs.Permutations.{skip, skip_at, skip_off, IsPermutation-skip, IsPermutation-iterate, onto}
 
 -- ---- iterates
+-- a + b steps are b steps and then a more
 pub iterate-add : (t : ℕ → ℕ) (a b s : ℕ) → iterate t (a + b) s ≡ iterate t a (iterate t b s)
 iterate-add t a zero s = rw (add-zero a)
 iterate-add t a (suc b) s = rw (add-suc a b) (iterate-add t a b (t s))
 
+-- k + 1 steps are k steps and then one
 pub iterate-last : (t : ℕ → ℕ) (k s : ℕ) → iterate t (suc k) s ≡ t (iterate t k s)
 iterate-last t zero s = refl
 iterate-last t (suc k) s = iterate-last t k (t s)
@@ -69,6 +71,7 @@ pigeonhole (suc m) f h =
         same (inr a) (inl b) = absurd (none i (omega arith) (rw (ne_eqb (f i) m a, eq-eqb (f j) m b) at e))
         same (inr a) (inr b) = rw (ne_eqb (f i) m a, ne_eqb (f j) m b) at e
 
+-- a permutation brings each number below n back to itself within n steps
 pub period : {t : ℕ → ℕ} {n : ℕ} → IsPermutation t n → (s : ℕ) → s < n → (k : ℕ) × (k < n) × (iterate t (suc k) s ≡ s)
 period {t} {n} h s l = from_pair (pigeonhole n (λ i. iterate t i s) (λ i p. (IsPermutation-iterate h i).into s l))
   where
@@ -100,6 +103,7 @@ least_means_least {t} {n} h s l e k = within (period h s l)
         let same : iterate t k s ≡ iterate t r s = ap (λ (x : ℕ). iterate t x s) split ∙ iterate-add t r (k / suc p * suc p) s ∙ ap (iterate t r) (iterate_multiple t (suc p) s back (k / suc p)) in
         rw same (least_below t n s e r (omega arith))
 
+-- a number that is at most each of its iterates passes the test, for any map
 pub least_from_all : (t : ℕ → ℕ) (n s : ℕ) → ((k : ℕ) → s ≤ iterate t k s) → IsTrue (is_least_for t n s)
 least_from_all t zero s h = refl
 least_from_all t (suc n) s h = and_from (is_least_for t n s) (nat_le s (iterate t n s)) (least_from_all t n s h) (le-leb s (iterate t n s) (h n))

@@ -66,6 +66,7 @@ le_antisymm a b h k = omega (arith, ints)
 pub le_of_eq : (a b : ℤ) → a ≡ b → a ≤ℤ b
 le_of_eq a b h = omega (arith, ints)
 
+-- as whole numbers natural numbers are in the order that they were in, and no two become the same
 pub pos-le : (m n : ℕ) → m ≤ n → pos m ≤ℤ pos n
 pos-le m n h = omega (arith, ints)
 
@@ -79,6 +80,7 @@ same-pos m n h = omega (arith, ints)
 pub zero_from_neg : (a : ℤ) → a ≡ neg_ℤ a → a ≡ pos 0
 zero_from_neg a h = omega (arith, ints)
 
+-- an inequality, times a natural number
 pub mul-le_left : (n : ℕ) (a b : ℤ) → a ≤ℤ b → (pos n *ℤ a) ≤ℤ (pos n *ℤ b)
 mul-le_left n a b h = omega (arith, ints, mul-le-mul_left n (le_out a b h))
 
@@ -90,6 +92,7 @@ pub mul-le_factor : (d a b : ℤ) → pos 0 ≤ℤ d → a ≤ℤ b → (d *ℤ 
 mul-le_factor (pos n) a b p h = mul-le_left n a b h
 mul-le_factor (negsuc n) a b p h = absurd (omega (arith, ints))
 
+-- a positive factor of both sides can be taken away
 pub cancel_le : (n : ℕ) (a b : ℤ) → 0 < n → (pos n *ℤ a) ≤ℤ (pos n *ℤ b) → a ≤ℤ b
 cancel_le n a b p h =
     let k : up a + down b ≤ up b + down a = le_of_mul-le-mul_left {m = up a + down b} {n = up b + down a} {k = n} (omega (arith, ints)) p in

@@ -13,6 +13,7 @@ use Rattle.sc_algebra.proofs.Sums.{sum-congr, sum-neg, sum_by_value, count-congr
 abbrev pub skip : ℕ → (ℕ → ℕ) → ℕ → ℕ
 skip m t s = cond (t s == m) (t m) (t s)
 
+-- what led to m leads on, and anything else goes where it went
 pub skip_at : (m : ℕ) (t : ℕ → ℕ) (s : ℕ) → t s ≡ m → skip m t s ≡ t m
 skip_at m t s e = rw (eq-eqb (t s) m e)
 
@@ -42,6 +43,7 @@ skip_apart m t h s u l k e =
       ]
     ]
 
+-- a permutation of the numbers below m + 1, with m left out, is one of those below m
 pub IsPermutation-skip : (m : ℕ) (t : ℕ → ℕ) → IsPermutation t (suc m) → IsPermutation (skip m t) m
 IsPermutation-skip m t h = record { into = skip_into m t h; apart = skip_apart m t h }
 
@@ -71,6 +73,7 @@ onto_from_skip m t h u l found =
           | inr b ↦ (s, omega arith, sym (skip_off m t s b) ∙ e)
         ]
 
+-- a permutation comes to each number below the bound
 pub onto : {t : ℕ → ℕ} {n : ℕ} → IsPermutation t n → (u : ℕ) → u < n → (s : ℕ) × (s < n) × (t s ≡ u)
 onto {t} {n} h u l = onto_below n t h u l
   where
@@ -92,12 +95,14 @@ count_source t n i h l = at_source (onto h i l)
         same_test k q (inl a) = eq-eqb (t k) i (ap t a ∙ e) ∙ sym (eq-eqb k s a)
         same_test k q (inr b) = ne_eqb (t k) i (λ c. b (h.apart k s q p (c ∙ sym e))) ∙ sym (ne_eqb k s b)
 
+-- a sum over all numbers below n stays the same where a permutation goes first
 pub reindex : (t : ℕ → ℕ) (n : ℕ) (f : ℕ → ℤ) → IsPermutation t n → sum_below (λ s. f (t s)) n ≡ sum_below f n
 reindex t n f h =
     sym (sum_by_value t f n n h.into)
     ∙ sum-congr (λ i. pos (count_below (λ s. t s == i) n) *ℤ f i) f n
     (λ i l. ap (λ (c : ℕ). pos c *ℤ f i) (count_source t n i h l) ∙ one-mul (f i))
 
+-- and so does a count
 pub count-reindex : (t : ℕ → ℕ) (n : ℕ) (p : ℕ → Bool) → IsPermutation t n → count_below (λ s. p (t s)) n ≡ count_below p n
 count-reindex t n p h =
     same-pos (count_below (λ s. p (t s)) n) (count_below p n)
@@ -114,11 +119,13 @@ compose {t} {u} {n} h k = record {
   apart = λ s v l m e. k.apart s v l m (h.apart (u s) (u v) (k.into s l) (k.into v m) e);
 }
 
+-- k steps of a permutation are a permutation
 pub IsPermutation-iterate : {t : ℕ → ℕ} {n : ℕ} → IsPermutation t n → (k : ℕ) → IsPermutation (iterate t k) n
 IsPermutation-iterate {t} {n} h zero = IsPermutation-id n
 IsPermutation-iterate {t} {n} h (suc k) = compose (IsPermutation-iterate h k) h
 
 -- ---- involutions
+-- a map whose second step takes each number below n back is a permutation
 pub involution : (m : ℕ → ℕ) (n : ℕ) → ((s : ℕ) → s < n → m s < n) → ((s : ℕ) → s < n → m (m s) ≡ s) → IsPermutation m n
 involution m n into back = record {
   into = into;

@@ -8,10 +8,12 @@ use Rattle.sc_algebra.specs.Sums.{sum_below, count_below}
 use Rattle.sc_algebra.proofs.Ints.{mul_add, add_mul}
 
 -- ---- sums
+-- functions with the same values below n have the same sum
 pub sum-congr : (f g : ℕ → ℤ) (n : ℕ) → ((k : ℕ) → k < n → f k ≡ g k) → sum_below f n ≡ sum_below g n
 sum-congr f g zero h = refl
 sum-congr f g (suc n) h = ap₂ (λ (x y : ℤ). x +ℤ y) (sum-congr f g n (λ k p. h k (omega arith))) (h n (omega arith))
 
+-- what is done to each term is done to the sum: adding, negating, subtracting, multiplying by one factor
 pub sum-add : (f g : ℕ → ℤ) (n : ℕ) → sum_below (λ k. f k +ℤ g k) n ≡ sum_below f n +ℤ sum_below g n
 sum-add f g zero = refl
 sum-add f g (suc n) = omega (arith, ints, sum-add f g n)
@@ -28,6 +30,7 @@ pub sum-mul_left : (a : ℤ) (f : ℕ → ℤ) (n : ℕ) → sum_below (λ k. a 
 sum-mul_left a f zero = omega (arith, ints)
 sum-mul_left a f (suc n) = ap (λ (x : ℤ). x +ℤ a *ℤ f n) (sum-mul_left a f n) ∙ sym (mul_add a (sum_below f n) (f n))
 
+-- a number that is summed n times gives n times the number
 pub sum-const : (a : ℤ) (n : ℕ) → sum_below (λ k. a) n ≡ pos n *ℤ a
 sum-const a zero = omega (arith, ints)
 sum-const a (suc n) = omega (arith, ints, sum-const a n)
@@ -40,6 +43,7 @@ sum-zero (suc n) = omega (arith, ints, sum-zero n)
 pub sum_zero_each : (f : ℕ → ℤ) (n : ℕ) → ((k : ℕ) → k < n → f k ≡ pos 0) → sum_below f n ≡ pos 0
 sum_zero_each f n h = sum-congr f (λ k. pos 0) n h ∙ sum-zero n
 
+-- where no term is above the other function's, neither is the sum
 pub sum-le : (f g : ℕ → ℤ) (n : ℕ) → ((k : ℕ) → k < n → f k ≤ℤ g k) → sum_below f n ≤ℤ sum_below g n
 sum-le f g zero h = omega (arith, ints)
 sum-le f g (suc n) h = omega (arith, ints, sum-le f g n (λ k p. h k (omega arith)), h n (omega arith))
@@ -48,6 +52,7 @@ sum-le f g (suc n) h = omega (arith, ints, sum-le f g n (λ k p. h k (omega arit
 pub sum_non_negative : (f : ℕ → ℤ) (n : ℕ) → ((k : ℕ) → k < n → pos 0 ≤ℤ f k) → pos 0 ≤ℤ sum_below f n
 sum_non_negative f n h = omega (arith, ints, sum-zero n, sum-le (λ k. pos 0) f n h)
 
+-- sums of sums can be taken in either order
 pub sum-exchange : (f : ℕ → ℕ → ℤ) (n m : ℕ) → sum_below (λ s. sum_below (λ w. f s w) m) n ≡ sum_below (λ w. sum_below (λ s. f s w) n) m
 sum-exchange f zero m = sym (sum-zero m)
 sum-exchange f (suc n) m =
@@ -63,15 +68,18 @@ sum-single f (suc n) i p h =
       | inr ne ↦ omega (arith, ints, sum-single f n i (omega arith) (λ k q d. h k (omega arith) d), h n (omega arith) (λ e. ne (sym e)))
     ]
 
+-- a sum is that of its first m terms and that of the others
 pub sum-append : (f : ℕ → ℤ) (m n : ℕ) → sum_below f (m + n) ≡ sum_below f m +ℤ sum_below (λ k. f (m + k)) n
 sum-append f m zero = rw add-zero (omega (arith, ints))
 sum-append f m (suc n) = rw add-suc (omega (arith, ints, sum-append f m n))
 
+-- the first term, and the sum of the others
 pub sum_first : (f : ℕ → ℤ) (n : ℕ) → sum_below f (suc n) ≡ f 0 +ℤ sum_below (λ k. f (suc k)) n
 sum_first f zero = omega (arith, ints)
 sum_first f (suc n) = omega (arith, ints, sum_first f n)
 
 -- ---- counts
+-- tests that agree below n count the same
 pub count-congr : (p q : ℕ → Bool) (n : ℕ) → ((k : ℕ) → k < n → p k ≡ q k) → count_below p n ≡ count_below q n
 count-congr p q zero h = refl
 count-congr p q (suc n) h =
@@ -82,6 +90,7 @@ count-le p zero = omega arith
 count-le p (suc n) =
     elim (cases_Bool (p n)) [ inl e ↦ rw e (omega (arith, count-le p n)) | inr e ↦ rw e (omega (arith, count-le p n)) ]
 
+-- where all numbers below n pass the count is n, and where none does it is 0
 pub count-all : (p : ℕ → Bool) (n : ℕ) → ((k : ℕ) → k < n → p k ≡ true) → count_below p n ≡ n
 count-all p zero h = refl
 count-all p (suc n) h = rw (h n (omega arith)) (omega (arith, count-all p n (λ k l. h k (omega arith))))
@@ -105,15 +114,18 @@ count_found p (suc n) i l e =
       | inr apart ↦ omega (arith, count_found p n i (omega arith) e)
     ]
 
+-- a count is the sum of a 1 for each number that passes
 pub count-sum : (p : ℕ → Bool) (n : ℕ) → pos (count_below p n) ≡ sum_below (λ k. if p k then pos 1 else pos 0) n
 count-sum p zero = refl
 count-sum p (suc n) =
     elim (cases_Bool (p n)) [ inl e ↦ rw e (omega (arith, ints, count-sum p n)) | inr e ↦ rw e (omega (arith, ints, count-sum p n)) ]
 
+-- a count is that of the first m numbers and that of the others
 pub count-append : (p : ℕ → Bool) (m n : ℕ) → count_below p (m + n) ≡ count_below p m + count_below (λ k. p (m + k)) n
 count-append p m zero = rw (add-zero m) (omega arith)
 count-append p m (suc n) = rw add-suc (omega (arith, count-append p m n))
 
+-- the first number, and the count of the others
 pub count_first : (p : ℕ → Bool) (n : ℕ) → count_below p (suc n) ≡ (if p 0 then 1 else 0) + count_below (λ k. p (suc k)) n
 count_first p zero = omega arith
 count_first p (suc n) = omega (arith, count_first p n)
@@ -134,6 +146,7 @@ sum_by_value f g m (suc n) h =
     ∙ sum-add (λ i. pos (count_below (λ s. f s == i) n) *ℤ g i) (λ i. pos (if f n == i then 1 else 0) *ℤ g i) m
     ∙ ap₂ (λ (x y : ℤ). x +ℤ y) (sum_by_value f g m n (λ s l. h s (omega arith))) (value_term g (f n) m (h n (omega arith)))
 
+-- how often f takes each value, summed over the values, is how many arguments there are
 pub count-partition : (f : ℕ → ℕ) (m n : ℕ) → ((s : ℕ) → s < n → f s < m) → sum_below (λ i. pos (count_below (λ s. f s == i) n)) m ≡ pos n
 count-partition f m n h =
     sum-congr (λ i. pos (count_below (λ s. f s == i) n)) (λ i. pos (count_below (λ s. f s == i) n) *ℤ pos 1) m (λ i l. omega (arith, ints))
@@ -151,6 +164,7 @@ count_one (suc n) i l =
     ]
 
 -- ---- over the places of a list
+-- a sum over the places of a list is that over its elements
 pub sum-list : {X : Type 0} (f : X → ℕ) (xs : List X) (d : X) → sum_below (λ k. pos (f (get_or xs k d))) (length xs) ≡ pos (sum_by f xs)
 sum-list f [] d = refl
 sum-list f (x ∷ xs) d =
@@ -158,6 +172,7 @@ sum-list f (x ∷ xs) d =
     ∙ ap (λ (y : ℤ). pos (f x) +ℤ y) (sum-list f xs d)
     ∙ ap pos (sym (sum_by-cons f x xs))
 
+-- and so with a count
 pub count-list : {X : Type 0} (p : X → Bool) (xs : List X) (d : X) → count_below (λ k. p (get_or xs k d)) (length xs) ≡ count_by p xs
 count-list p [] d = refl
 count-list p (x ∷ xs) d =

@@ -80,6 +80,8 @@ module _ (r : ℕ) (b : ℕ → ℤ) (basis : Basis) (t : BasisNumbers) (c : Col
       subst (λ (z : ℤ). z ≤ℤ pos 0) (mul_comm (dot r long (entry_of own)) s)
       (subst (λ (z : ℤ). (dot r long (entry_of own) *ℤ s) ≤ℤ z) (mul-zero (dot r long (entry_of own))) (mul_le (dot r long (entry_of own)) s (pos 0) positive h))
 
+  -- a column that improves has a positive product with some row of the basis, where its own product with `long`
+  -- and that of each column of the basis are positive
   pub bounded_column : ((i : ℕ) (own : Column) → i < r → item basis i ≡ Some own → pos 0 <ℤ dot r long (entry_of own)) → pos 0 <ℤ dot r long (entry_of c) → Improves r t c
       → (i : ℕ) × (i < r) × (pos 0 <ℤ along r t c i)
   unfolding share

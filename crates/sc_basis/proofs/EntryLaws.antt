@@ -25,6 +25,7 @@ index_least r first (x ∷ xs) (suc m) h inside =
     let rest : x.0 + 1 ≤ index_at xs m = index_least r (x.0 + 1) xs m h.2 (omega arith) in
     omega arith
 
+-- the indices of an ascending column are below r
 pub index_inside : (r first : ℕ) (c : Column) (m : ℕ) → IsAscending r first c → m < length c → index_at c m < r
 index_inside r first [] m h inside = absurd (omega arith)
 index_inside r first (x ∷ xs) zero h inside = h.1

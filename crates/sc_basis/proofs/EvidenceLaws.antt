@@ -95,6 +95,7 @@ operands_same r b t t' c l (price_sum level k) x y x' y' same (s, k_inside, x_is
 operands_same r b t t' c l (price_scale level) x y x' y' same (s, x_is, y_is) (s', x_is', y_is') =
     (x_is ∙ scale_same r t t' level same ∙ sym x_is', y_is ∙ (price_ratio r b t t' c l level s s' same).0 ∙ sym y_is')
 
+-- all evidence of a place after a journal, by the same column and row, tells the same two operands
 pub evidence_unique : (r : ℕ) (b : ℕ → ℤ) (ps : Journal) (place : Place) (entering : Option Column) (leaving : Option ℕ) (x y x' y' : ℤ) → IsNonNegative r b → IsEvidence r b ps place entering leaving x y → IsEvidence r b ps place entering leaving x' y' → (x ≡ x') × (y ≡ y')
 evidence_unique r b ps place entering leaving x y x' y' not_negative first second =
     operands_same r b first.numbers second.numbers (column_or_none entering) (row_or_first leaving) place x y x' y'

@@ -19,6 +19,7 @@ use Rattle.sc_basis.proofs.Units.{dot-columns-units}
 use Rattle.sc_basis.proofs.Uniqueness.{same_numbers}
 
 -- ---- the start
+-- the basis of the unit columns has an inverse, and its rows are the units
 pub inverse_start : (r : ℕ) → Inverse r (columns (unit_basis r))
 inverse_start r =
     record {
@@ -110,6 +111,7 @@ spread_after r column column' c l inv inside new x v =
     ∙ ap₂ (λ (p q : ℤ). (dot r (inv.row l) c *ℤ p -ℤ dot r (inv.row l) v *ℤ q) +ℤ dot r (inv.row l) v *ℤ (inv.scale *ℤ dot r x c)) (sym (inv.spread x v)) (sym (inv.spread x c))
     ∙ left_over (dot r (inv.row l) c) (dot r (inv.row l) v) inv.scale (dot r x v) (dot r x c))
 
+-- a basis has an inverse after a column took the place l, where row l of the inverse has a positive product with it
 pub inverse_after : (r : ℕ) (column column' : ℕ → ℕ → ℤ) (c : ℕ → ℤ) (l : ℕ) (inv : Inverse r column) → l < r → IsReplaced column column' c l → pos 0 <ℤ dot r (inv.row l) c → Inverse r column'
 inverse_after r column column' c l inv inside new p =
     record {
@@ -120,6 +122,7 @@ inverse_after r column column' c l inv inside new p =
       spread = spread_after r column column' c l inv inside new;
     }
 
+-- the rows of that inverse are those of `row_after`
 pub inverse_after_row : (r : ℕ) (column column' : ℕ → ℕ → ℤ) (c : ℕ → ℤ) (l : ℕ) (inv : Inverse r column) (inside : l < r) (new : IsReplaced column column' c l) (p : pos 0 <ℤ dot r (inv.row l) c) (i : ℕ) → (inverse_after r column column' c l inv inside new p).row i ≡ row_after r inv.scale inv.row c l i
 unfolding inverse_after
 inverse_after_row r column column' c l inv inside new p i = refl
@@ -142,6 +145,7 @@ pub row_determined : (r : ℕ) (column : ℕ → ℕ → ℤ) (inv : Inverse r c
 row_determined r column inv i w d inside g v =
     determined r column inv (unit i) w d g v ∙ ap (λ (t : ℤ). d *ℤ t) (dot-unit r i (λ j. dot r (inv.row j) v) inside)
 
+-- the same entry by entry, and then for lines
 pub entry_determined : (r : ℕ) (column : ℕ → ℕ → ℤ) (inv : Inverse r column) (i : ℕ) (w : ℕ → ℤ) (d : ℤ) → i < r → Gives r column (unit i) w d → (k : ℕ) → k < r → inv.scale *ℤ w k ≡ d *ℤ inv.row i k
 entry_determined r column inv i w d inside g k l =
     ap (λ (t : ℤ). inv.scale *ℤ t) (sym (dot-unit r k w l)) ∙ row_determined r column inv i w d inside g (unit k) ∙ ap (λ (t : ℤ). d *ℤ t) (dot-unit r k (inv.row i) l)

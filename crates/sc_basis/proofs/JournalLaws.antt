@@ -65,6 +65,7 @@ above_combined r p q f g p_positive not_negative first second =
       | inr q_none ↦ above_first r p q f g p_positive (let e : q ≡ pos 0 = omega (arith, ints) in e) first
     ]
 
+-- a list is above 0 exactly where a positive multiple of it is
 pub above_scaled : (r : ℕ) (z : ℤ) (f g : ℕ → ℤ) → pos 0 <ℤ z → ((k : ℕ) → k < suc r → z *ℤ f k ≡ g k) → IsAbove r f → IsAbove r g
 above_scaled r z f g p e above =
     lex_map (suc r) (λ k. z *ℤ pos 0) (λ k. z *ℤ f k) (λ k. pos 0) g (λ k l. mul-zero z) e (lex_scale (suc r) z (λ k. pos 0) f p above)
@@ -174,6 +175,7 @@ line_after r b column inv t c l i rows leaves above inside =
         (above i inside)
         (above l leaves.inside)
 
+-- a lawful pivot leads from a basis that is reached to one that is
 pub reached_after : (r : ℕ) (b : ℕ → ℤ) (basis : Basis) (p : Pivot) → IsReached r b basis → IsLawful r b basis p → IsReached r b (after_pivot basis p)
 reached_after r b basis p reached lawful =
     record {
@@ -207,6 +209,7 @@ above_unit r b i inside not_negative =
     zeros e zero l = e
     zeros e (suc j) l = sym (unit_other i j (λ (h : j ≡ i). omega arith))
 
+-- the basis of the unit columns is reached where no entry of the right side is negative
 pub reached_start : (r : ℕ) (b : ℕ → ℤ) → IsNonNegative r b → IsReached r b (unit_basis r)
 reached_start r b not_negative =
     record {
@@ -216,17 +219,21 @@ reached_start r b not_negative =
     }
 
 -- ---- journals
+-- lawful pivots one after another lead from a basis that is reached to one that is
 pub reached_from : (r : ℕ) (b : ℕ → ℤ) (basis : Basis) (ps : Journal) → IsReached r b basis → LawfulFrom r b basis ps → IsReached r b (basis_after basis ps)
 reached_from r b basis [] reached lawful = reached
 reached_from r b basis (p ∷ ps) reached (first, rest) = reached_from r b (after_pivot basis p) ps (reached_after r b basis p reached first) rest
 
+-- the basis that a lawful journal leads to is reached
 pub journal_reached : (r : ℕ) (b : ℕ → ℤ) (ps : Journal) → IsNonNegative r b → IsJournal r b ps → IsReached r b (basis_after (unit_basis r) ps)
 journal_reached r b ps not_negative lawful = reached_from r b (unit_basis r) ps (reached_start r b not_negative) lawful
 
+-- pivots that are lawful from a basis, and more that are from where they lead, are lawful all together
 pub lawful_joined : (r : ℕ) (b : ℕ → ℤ) (basis : Basis) (ps qs : Journal) → LawfulFrom r b basis ps → LawfulFrom r b (basis_after basis ps) qs → LawfulFrom r b basis (ps ++ qs)
 lawful_joined r b basis [] qs first second = second
 lawful_joined r b basis (p ∷ ps) qs (here, rest) second = (here, lawful_joined r b (after_pivot basis p) ps qs rest second)
 
+-- both parts of a lawful journal are lawful, each from the basis at which it begins
 pub lawful_first : (r : ℕ) (b : ℕ → ℤ) (basis : Basis) (ps qs : Journal) → LawfulFrom r b basis (ps ++ qs) → LawfulFrom r b basis ps
 lawful_first r b basis [] qs lawful = tt
 lawful_first r b basis (p ∷ ps) qs (here, rest) = (here, lawful_first r b (after_pivot basis p) ps qs rest)
@@ -235,17 +242,20 @@ pub lawful_second : (r : ℕ) (b : ℕ → ℤ) (basis : Basis) (ps qs : Journal
 lawful_second r b basis [] qs lawful = lawful
 lawful_second r b basis (p ∷ ps) qs (here, rest) = lawful_second r b (after_pivot basis p) ps qs rest
 
+-- two journals one after the other lead where the second leads from where the first does
 pub after_joined : (basis : Basis) (ps qs : Journal) → basis_after basis (ps ++ qs) ≡ basis_after (basis_after basis ps) qs
 after_joined basis [] qs = refl
 after_joined basis (p ∷ ps) qs = after_joined (after_pivot basis p) ps qs
 
 -- ---- the numbers of a basis that is reached
+-- at a basis that is reached the line of each row is above 0
 pub standing_above : (r : ℕ) (b : ℕ → ℤ) (basis : Basis) (t : BasisNumbers) → IsReached r b basis → Stands r basis t → (i : ℕ) → i < r → IsAbove r (line r b (t.row i))
 standing_above r b basis t reached stands i inside =
     above_unscaled r reached.inverse.scale (line r b (t.row i)) (λ k. t.denominator i *ℤ line r b (reached.inverse.row i) k) reached.inverse.positive
     (line_determined r b (columns basis) reached.inverse i (t.row i) (t.denominator i) inside (stands.rows i inside))
     (above_scaled r (t.denominator i) (line r b (reached.inverse.row i)) (λ k. t.denominator i *ℤ line r b (reached.inverse.row i) k) (stands.rows i inside).positive (λ k l. refl) (reached.above i inside))
 
+-- any two lists of numbers that stand for a basis that is reached are the same
 pub standing_unique : (r : ℕ) (b : ℕ → ℤ) (basis : Basis) (t t' : BasisNumbers) → IsReached r b basis → Stands r basis t → Stands r basis t' → AreSameNumbers r t t'
 standing_unique r b basis t t' reached first second =
     record {

@@ -26,6 +26,7 @@ pub lex_map : (n : ℕ) (f g f' g' : ℕ → ℤ) → ((k : ℕ) → k < n → f
 lex_map n f g f' g' e d (k, inside, same, less) =
     (k, inside, (λ j l. sym (e j (omega arith)) ∙ same j l ∙ d j (omega arith)), subst₂ (λ (x y : ℤ). x <ℤ y) (e k inside) (d k inside) less)
 
+-- a positive factor of both lists changes nothing in their order
 pub lex_scale : (n : ℕ) (z : ℤ) (f g : ℕ → ℤ) → pos 0 <ℤ z → LexLess n f g → LexLess n (λ k. z *ℤ f k) (λ k. z *ℤ g k)
 lex_scale n z f g p (k, inside, same, less) = (k, inside, (λ j l. ap (λ (x : ℤ). z *ℤ x) (same j l)), mul_lt z (f k) (g k) p less)
 
@@ -49,6 +50,7 @@ lex_trans n f g h (k, inside, same, less) (m, within, equal, below) =
 pub lex_irreflexive : (n : ℕ) (f : ℕ → ℤ) → LexLess n f f → ⊥
 lex_irreflexive n f (k, inside, same, less) = omega (arith, ints)
 
+-- of two lists one is less, or they are the same
 pub lex_total : (n : ℕ) (f g : ℕ → ℤ) → LexLess n f g ⊎ (((k : ℕ) → k < n → f k ≡ g k) ⊎ LexLess n g f)
 lex_total zero f g = inr (inl (λ k l. absurd (omega arith)))
 lex_total (suc n) f g =

@@ -30,5 +30,6 @@ lt_of_mul z a b p h = not_le a b (λ k. let back : (z *ℤ b) ≤ℤ (z *ℤ a) 
 pub mul_pos : (a b : ℤ) → pos 0 <ℤ a → pos 0 <ℤ b → pos 0 <ℤ (a *ℤ b)
 mul_pos a b p q = let h : (a *ℤ pos 0) <ℤ (a *ℤ b) = mul_lt a (pos 0) b p q in omega (arith, ints)
 
+-- where a product and one of its factors are positive, so is the other
 pub pos_of_mul : (a b : ℤ) → pos 0 <ℤ a → pos 0 <ℤ (a *ℤ b) → pos 0 <ℤ b
 pos_of_mul a b p h = lt_of_mul a (pos 0) b p (let e : a *ℤ pos 0 ≡ pos 0 = omega (arith, ints) in omega (arith, ints))

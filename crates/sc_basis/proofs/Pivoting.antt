@@ -12,6 +12,7 @@ use Rattle.sc_basis.proofs.Numbers.{cancel_pos, mul_pos, pos_of_mul}
 use Rattle.sc_basis.proofs.ProductLaws.{unit_same, unit_other, dot-congr, dot-mul, dot-combine}
 use Rattle.sc_basis.proofs.Replacing.{IsReplaced, replaced, item-here, item-other}
 
+-- the product with a reduced list, times the factor that was taken out, is that with the list before
 pub dot-reduced : (r : ℕ) (v : ℕ → ℤ) (d : ℤ) (w : ℕ → ℤ) (e : ℤ) (y : ℕ → ℤ) (h : IsReduced r v d w e) → h.factor *ℤ dot r v y ≡ dot r w y
 dot-reduced r v d w e y h = sym (dot-mul r h.factor v y) ∙ dot-congr r (λ k. h.factor *ℤ v k) w y y h.entries (λ k l. refl)
 
@@ -103,10 +104,12 @@ gives_other r column column' c l i v d w e apart new row left p =
     (gives_combined r column column' c l (unit i) (unit i) v d w e new (λ j h. refl) row left p)
 
 -- ---- over a basis
+-- what a list over a scale reduces to, one with the same entries and scale does too
 pub reduced_same : (r : ℕ) (v : ℕ → ℤ) (d : ℤ) (w w' : ℕ → ℤ) (e e' : ℤ) → ((k : ℕ) → k < r → w k ≡ w' k) → e ≡ e' → IsReduced r v d w e → IsReduced r v d w' e'
 reduced_same r v d w w' e e' entries scale h =
     record { factor = h.factor; positive = h.positive; entries = λ k l. h.entries k l ∙ entries k l; scale = h.scale ∙ scale; coprime = h.coprime }
 
+-- rows pivoted by the rule give the units at the items of the new basis
 pub rows_after : (r : ℕ) (basis : Basis) (row : ℕ → ℕ → ℤ) (den : ℕ → ℤ) (row' : ℕ → ℕ → ℤ) (den' a : ℕ → ℤ) (c : Column) (l : ℕ) → length basis ≡ r → l < r → ((i : ℕ) → i < r → Gives r (columns basis) (unit i) (row i) (den i)) → ((i : ℕ) → i < r → a i ≡ dot r (row i) (entry_of c)) → pos 0 <ℤ a l → RowsPivoted r row den row' den' a l → (i : ℕ) → i < r → Gives r (columns (after_pivot basis (l, c))) (unit i) (row' i) (den' i)
 rows_after r basis row den row' den' a c l size inside rows products_are positive new i i_inside =
     elim (cases_eq i l) [
@@ -135,6 +138,7 @@ rows_after r basis row den row' den' a c l size inside rows products_are positiv
         (new.others i i_inside apart))
         (gives_other r (columns basis) (columns (after_pivot basis (l, c))) (entry_of c) l i (row i) (den i) (row l) (den l) apart put (rows i i_inside) (rows l inside) above)
 
+-- prices pivoted by the rule give the costs of the items of the new basis
 pub prices_after : (r : ℕ) (basis : Basis) (cost : Option Column → ℤ) (v v' w : ℕ → ℤ) (d d' e : ℤ) (c : Column) (l : ℕ) → length basis ≡ r → l < r → Gives r (columns basis) (λ j. cost (item basis j)) v d → Gives r (columns basis) (unit l) w e → pos 0 <ℤ dot r w (entry_of c) → PricesPivoted r v d v' d' (gap r v d (cost (Some c)) c) w (dot r w (entry_of c)) → Gives r (columns (after_pivot basis (l, c))) (λ j. cost (item (after_pivot basis (l, c)) j)) v' d'
 prices_after r basis cost v v' w d d' e c l size inside prices row positive new =
     gives_reduced r (columns (after_pivot basis (l, c))) (λ j. cost (item (after_pivot basis (l, c)) j)) v' d'
@@ -149,6 +153,7 @@ prices_after r basis cost v v' w d d' e c l size inside prices row positive new 
     l_inside : l < length basis
     l_inside = subst (λ (n : ℕ). l < n) (sym size) inside
 
+-- numbers pivoted by the rule stand for the new basis, where those before stood for the old one
 pub stands_after : (r : ℕ) (basis : Basis) (t t' : BasisNumbers) (c : Column) (l : ℕ) → length basis ≡ r → l < r → Stands r basis t → pos 0 <ℤ along r t c l → NumbersPivoted r t t' c l → Stands r (after_pivot basis (l, c)) t'
 stands_after r basis t t' c l size inside old positive new =
     record {

@@ -21,9 +21,11 @@ dot-unit r j x inside =
     sum-single (λ k. x k *ℤ unit j k) r j inside (λ k l apart. rw (unit_other j k apart) (omega (arith, ints)))
     ∙ rw (unit_same j) (omega (arith, ints))
 
+-- lists with the same entries have the same products
 pub dot-congr : (r : ℕ) (x y v w : ℕ → ℤ) → ((k : ℕ) → k < r → x k ≡ y k) → ((k : ℕ) → k < r → v k ≡ w k) → dot r x v ≡ dot r y w
 dot-congr r x y v w e f = sum-congr (λ k. x k *ℤ v k) (λ k. y k *ℤ w k) r (λ k l. ap₂ (λ (s t : ℤ). s *ℤ t) (e k l) (f k l))
 
+-- a product is linear in its first factor
 pub dot-add : (r : ℕ) (x y v : ℕ → ℤ) → dot r (λ k. x k +ℤ y k) v ≡ dot r x v +ℤ dot r y v
 dot-add r x y v =
     sum-congr (λ k. (x k +ℤ y k) *ℤ v k) (λ k. x k *ℤ v k +ℤ y k *ℤ v k) r (λ k l. simp products (omega (arith, ints)))

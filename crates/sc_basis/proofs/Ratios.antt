@@ -12,6 +12,7 @@ crossed : (f g d v e w : ℤ) → g *ℤ d ≡ e → f *ℤ v ≡ w → (f *ℤ 
 crossed f g d v e w scale entry =
     (let h : (f *ℤ g) *ℤ (d *ℤ v) ≡ (g *ℤ d) *ℤ (f *ℤ v) = simp products (omega (arith, ints)) in h) ∙ ap₂ (λ (x y : ℤ). x *ℤ y) scale entry
 
+-- a list over a scale has one reduced form
 pub reduced_unique : (r : ℕ) (v : ℕ → ℤ) (d : ℤ) (v' : ℕ → ℤ) (d' : ℤ) (w : ℕ → ℤ) (e : ℤ) → pos 0 <ℤ e → IsReduced r v d w e → IsReduced r v' d' w e → (d ≡ d') × ((k : ℕ) → k < r → v k ≡ v' k)
 reduced_unique r v d v' d' w e positive h g =
     same_numbers r v v' d d'
@@ -24,6 +25,7 @@ reduced_unique r v d v' d' w e positive h g =
     h.coprime
     g.coprime
 
+-- a quotient has one form in lowest terms
 pub ratio_unique : (m a p q p' q' : ℤ) → pos 0 <ℤ m → IsRatio m a p q → IsRatio m a p' q' → (p ≡ p') × (q ≡ q')
 ratio_unique m a p q p' q' positive h g =
     let both : (p ≡ p') × ((k : ℕ) → k < 1 → q ≡ q') = same_numbers 1 (λ k. q) (λ k. q') p p' h.positive g.positive (λ k l. proportion) h.coprime g.coprime in

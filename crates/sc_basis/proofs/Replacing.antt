@@ -10,12 +10,14 @@ pub record IsReplaced (column column' : ℕ → ℕ → ℤ) (c : ℕ → ℤ) (
   pub here : column' l ≡ c
   pub others : (j : ℕ) → j ≢ l → column' j ≡ column j
 
+-- after a pivot the column is the item of its row, and the other items are as before
 pub item-here : (basis : Basis) (l : ℕ) (c : Column) → l < length basis → item (after_pivot basis (l, c)) l ≡ Some c
 item-here basis l c inside = get_or-set_same basis l (Some c) None inside
 
 pub item-other : (basis : Basis) (l j : ℕ) (c : Column) → j ≢ l → item (after_pivot basis (l, c)) j ≡ item basis j
 item-other basis l j c apart = get_or-set_other basis l j (Some c) None apart
 
+-- the same of the entries of the items
 pub replaced : (basis : Basis) (l : ℕ) (c : Column) → l < length basis → IsReplaced (columns basis) (columns (after_pivot basis (l, c))) (entry_of c) l
 replaced basis l c inside =
     record {

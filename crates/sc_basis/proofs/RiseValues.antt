@@ -59,10 +59,12 @@ module _ (r : ℕ) (b v v' w : ℕ → ℤ) (a d d' g : ℤ) (positive : pos 0 <
       no_more : (x y : ℤ) → y ≡ pos 0 → x ≡ x +ℤ y
       no_more x y e = omega (arith, ints)
 
+  -- where the gap g is 0 the line of the prices stays the same
   pub equal_raise : g ≡ pos 0 → SameLine r b v d v' d'
   equal_raise e k inside =
       same_at k inside (ap (λ (z : ℤ). (d' *ℤ z) *ℤ line r b w k) e ∙ ap (λ (z : ℤ). z *ℤ line r b w k) (mul-zero d') ∙ zero-mul (line r b w k))
 
+  -- where it is positive, and the leaving row's line above 0, the line of the new prices is greater
   pub greater_raise : pos 0 <ℤ g → IsAbove r (line r b w) → LesserLine r b v d v' d'
   greater_raise above (k, inside, same, less) = (
     k,
@@ -88,6 +90,7 @@ row_above r b basis t l reached stands inside =
     (λ k m. sym (line_determined r b (columns basis) inv l (t.row l) (t.denominator l) inside row k m))
     (lex_scale (suc r) (t.denominator l) (λ k. pos 0) (line r b (inv.row l)) row.positive (reached.above l inside)))
 
+-- a pivot raises the rise value, where the column improves and has a positive product with the leaving row
 pub one_pivot_rises : (r : ℕ) (b : ℕ → ℤ) (basis : Basis) (l : ℕ) (c : Column) (t t' : BasisNumbers) → IsReached r b basis → IsReached r b (after_pivot basis (l, c))
     → Stands r basis t → Stands r (after_pivot basis (l, c)) t' → l < r → pos 0 <ℤ along r t c l → Improves r t c → Rises r b t t'
 one_pivot_rises r b basis l c t t' reached next stands after inside positive improves =

@@ -43,6 +43,7 @@ module _ (r : ℕ) (b : ℕ → ℤ) (u v w : ℕ → ℤ) (d e g : ℤ) (first 
       (mul_left_comm e g (line r b u k) ∙ ap (λ (z : ℤ). g *ℤ z) (p k l) ∙ mul_left_comm g d (line r b v k) ∙ ap (λ (z : ℤ). d *ℤ z) (q k l) ∙ mul_left_comm d e (line r b w k))
 
 module _ (r : ℕ) (b : ℕ → ℤ) where
+  -- the order of rise values is transitive, and no rise value is above itself
   pub rises_trans : (basis basis' basis'' : Basis) (t t' t'' : BasisNumbers) → Stands r basis t → Stands r basis' t' → Stands r basis'' t'' → Rises r b t t' → Rises r b t' t'' → Rises r b t t''
   rises_trans basis basis' basis'' t t' t'' s s' s'' (inl p) (inl q) = inl (lesser_lesser r b t.bulk t'.bulk t''.bulk t.bulk_scale t'.bulk_scale t''.bulk_scale s.bulk.positive s'.bulk.positive s''.bulk.positive p q)
   rises_trans basis basis' basis'' t t' t'' s s' s'' (inl p) (inr (q, x)) = inl (lesser_same r b t.bulk t'.bulk t''.bulk t.bulk_scale t'.bulk_scale t''.bulk_scale s.bulk.positive s'.bulk.positive s''.bulk.positive p q)
@@ -70,6 +71,7 @@ module _ (r : ℕ) (b : ℕ → ℤ) where
   numbers_at basis (p ∷ ps) (suc m) lawful l = numbers_at (after_pivot basis p) ps m lawful.1 (omega arith)
 
   module _ (step : (basis : Basis) (p : Pivot) → IsReached r b basis → IsLawful r b basis p → IsReached r b (after_pivot basis p)) where
+    -- a lawful pivot raises the rise value, by whatever numbers stand for the two bases
     pub pivot_rises : (basis : Basis) (p : Pivot) (t t' : BasisNumbers) → IsReached r b basis → IsLawful r b basis p → Stands r basis t → Stands r (after_pivot basis p) t' → Rises r b t t'
     pivot_rises basis p t t' reached lawful stands after =
         one_pivot_rises r b basis p.0 p.1 t t' reached (step basis p reached lawful) stands after lawful.leaves.inside

@@ -41,6 +41,7 @@ lists_differ r b basis t c i l stands inside within apart positive above same =
 
 -- ---- the least of the rows below a number
 module _ (r : ℕ) (b : ℕ → ℤ) (a : ℕ → ℤ) (row : ℕ → ℕ → ℤ) where
+  -- of three rows with positive products: what comes before one that comes before a third comes before the third
   pub precedes_trans : (i j k : ℕ) → pos 0 <ℤ a i → pos 0 <ℤ a j → pos 0 <ℤ a k → Precedes r b a row i j → Precedes r b a row j k → Precedes r b a row i k
   precedes_trans i j k p q s first second = below_trans (suc r) (a i) (a j) (a k) (line r b (row i)) (line r b (row j)) (line r b (row k)) p q s first second
 
@@ -52,6 +53,7 @@ module _ (r : ℕ) (b : ℕ → ℤ) (a : ℕ → ℤ) (row : ℕ → ℕ → �
       clash : (i : ℕ) → i < suc n → i ≢ n → pos 0 <ℤ a i → ⊥
       clash i inner apart p = let h : a i ≤ℤ pos 0 = none i (omega arith) in omega (arith, ints)
 
+  -- one more row, which has no positive product either
   pub none_more : (n : ℕ) → ((i : ℕ) → i < n → a i ≤ℤ pos 0) → a n ≤ℤ pos 0 → (i : ℕ) → i < suc n → a i ≤ℤ pos 0
   none_more n none last i inner =
       elim (cases_lt i n) [

@@ -11,6 +11,7 @@ use Rattle.sc_basis.proofs.ProductLaws.{dot-congr}
 use Rattle.sc_basis.proofs.LexOrder.{lex_map}
 use Rattle.sc_basis.proofs.JournalLaws.{standing_unique}
 
+-- by the same numbers a row has the same product with a column
 pub along_same : (r : ℕ) (t t' : BasisNumbers) (c : Column) (i : ℕ) → AreSameNumbers r t t' → i < r → along r t c i ≡ along r t' c i
 along_same r t t' c i same inside = dot-congr r (t.row i) (t'.row i) (entry_of c) (entry_of c) (λ k l. same.rows i k inside l) (λ k l. refl)
 
@@ -38,8 +39,10 @@ leaving_same r b t t' c l same leaves =
           (leaves.least i inside apart (subst (λ (z : ℤ). pos 0 <ℤ z) (sym (along_same r t t' c i same inside)) positive));
     }
 
+-- a column that improves by some numbers that stand for a basis that is reached does so by all that stand for it
 pub improves_by_all : (r : ℕ) (b : ℕ → ℤ) (basis : Basis) (t t' : BasisNumbers) (c : Column) → IsReached r b basis → Stands r basis t → Stands r basis t' → Improves r t c → Improves r t' c
 improves_by_all r b basis t t' c reached first second improves = improves_same r t t' c (standing_unique r b basis t t' reached first second) improves
 
+-- and so a row that leaves
 pub leaves_by_all : (r : ℕ) (b : ℕ → ℤ) (basis : Basis) (t t' : BasisNumbers) (c : Column) (l : ℕ) → IsReached r b basis → Stands r basis t → Stands r basis t' → IsLeaving r b t c l → IsLeaving r b t' c l
 leaves_by_all r b basis t t' c l reached first second leaves = leaving_same r b t t' c l (standing_unique r b basis t t' reached first second) leaves

@@ -39,6 +39,7 @@ square_leaves =
           (λ apart p. absurd (apart refl));
     }
 
+-- the pivot of the commutator is lawful, and the numbers of the example stand for the basis after it
 pub square_lawful : IsJournal 3 one_word square_enters
 square_lawful = (record { numbers = start_numbers; stands = units 3; improves = inl (omega (arith, ints)); leaves = square_leaves }, tt)
 
@@ -74,6 +75,7 @@ two_starts_leave =
     below_two P a b (suc zero) l = b
     below_two P a b (suc (suc k)) l = absurd (omega arith)
 
+-- the same of the words `a` and `A`
 pub two_starts_lawful : IsJournal 3 two_words two_starts_enter
 two_starts_lawful = (record { numbers = start_numbers; stands = units 3; improves = inl (omega (arith, ints)); leaves = two_starts_leave }, tt)
 
@@ -93,9 +95,11 @@ two_starts_stand =
     }
 
 -- ---- near misses
+-- with the scale alone doubled the fine prices no longer give the costs
 pub wrong_scale_refused : Stands 3 (basis_after (unit_basis 3) square_enters) wrong_scale_numbers → ⊥
 wrong_scale_refused h = let e : pos 1 ≡ pos 2 = h.fine.product 2 (omega arith) in omega (arith, ints)
 
+-- fine prices and scale both doubled give the costs, but do not stand: they have the common divisor 2
 pub doubled_gives : Gives 3 (columns (basis_after (unit_basis 3) square_enters)) (fine_costs (basis_after (unit_basis 3) square_enters)) doubled_numbers.fine doubled_numbers.fine_scale
 doubled_gives =
     record {
@@ -140,6 +144,7 @@ first_word_step =
       ratio = record { positive = positive; same = refl; coprime = coprime_to_one 1 (λ k. pos 1) };
     }
 
+-- evidence of a difference in the first pivot, with the leaving row told, and none without the row
 pub difference_told : IsEvidence 3 two_words [] (row_difference 1 2) (Some two_starts) (Some 2) (pos 0) (pos 1)
 unfolding first_word_step
 difference_told =

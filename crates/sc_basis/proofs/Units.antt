@@ -12,6 +12,7 @@ use Rattle.sc_basis.proofs.ProductLaws.{dot-unit}
 pub item-units : (r j : ℕ) → j < r → item (unit_basis r) j ≡ None
 item-units r j inside = get_or-replicate r j None None inside
 
+-- the product with an item of the basis of the unit columns is an entry
 pub dot-columns-units : (r j : ℕ) (x : ℕ → ℤ) → j < r → dot r x (columns (unit_basis r) j) ≡ x j
 dot-columns-units r j x inside = ap (λ o. dot r x (entries_at j o)) (item-units r j inside) ∙ dot-unit r j x inside
 
@@ -21,6 +22,7 @@ coprime_to_one r v g divides all = eq-one_of_dvd-one divides
 units_positive : pos 0 <ℤ pos 1
 units_positive = omega (arith, ints)
 
+-- the identity, bulk prices -1 and fine prices 0 stand for the basis of the unit columns
 pub units : (r : ℕ) → Stands r (unit_basis r) start_numbers
 units r =
     record {

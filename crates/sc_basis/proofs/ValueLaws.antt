@@ -26,6 +26,7 @@ at_least a b other = elim (cases_lt (up b + down a) (up a + down b)) [
   | inr above ↦ omega (arith, ints)
 ]
 
+-- a column that doesn't improve has a bulk price of at least 0, and where it is 0 a fine price of at least the scale
 pub bulk_at_least : (r : ℕ) (t : BasisNumbers) (c : Column) → ¬ Improves r t c → pos 0 ≤ℤ dot r t.bulk (entry_of c)
 bulk_at_least r t c refused = at_least (pos 0) (dot r t.bulk (entry_of c)) (λ below. refused (inl below))
 
@@ -64,6 +65,7 @@ sum_at_least r t (c ∷ cs) refused = omega (arith, ints, dot-sum_of r t.bulk c 
 
 -- ---- a product with a list that gives numbers, by the products of the rows of the inverse
 module _ (r : ℕ) (column : ℕ → ℕ → ℤ) (inverse : Inverse r column) where
+  -- what a list that gives x makes of v, by what the rows of the inverse make of it; the second where x is a unit
   pub by_rows : (x v : ℕ → ℤ) (w : ℕ → ℤ) (d : ℤ) → Gives r column x w d → inverse.scale *ℤ dot r w v ≡ d *ℤ sum_below (λ i. dot r (inverse.row i) v *ℤ x i) r
   by_rows x v w d gives =
       inverse.spread w v
@@ -145,17 +147,21 @@ module _ (r : ℕ) (b : ℕ → ℤ) (basis : Basis) (t : BasisNumbers) (reached
       (λ i inside. sym (mul_assoc n (dot r (reached.inverse.row i) b) (x i)) ∙ ap (λ (z : ℤ). z *ℤ x i) (sym (multiple_by_row n y are i inside)) ∙ mul_assoc reached.inverse.scale (y i) (x i))
       ∙ sum-mul_left reached.inverse.scale (λ i. y i *ℤ x i) r
 
+-- no item of a basis that is reached has a negative value
 pub value_not_negative : (r : ℕ) (b : ℕ → ℤ) (basis : Basis) (t : BasisNumbers) → IsReached r b basis → Stands r basis t → (i : ℕ) → i < r → pos 0 ≤ℤ value r b t i
 value_not_negative r b basis t reached stands = not_negative r b basis t reached stands
 
+-- where the right side is a sum of columns that don't improve, its bulk price is 0
 pub bulk_of_right_side : (r : ℕ) (b : ℕ → ℤ) (basis : Basis) (t : BasisNumbers) (cs : List Column) → IsReached r b basis → Stands r basis t → SumTo r cs b → AllByRecursion (λ c. ¬ Improves r t c) cs → dot r t.bulk b ≡ pos 0
 bulk_of_right_side r b basis t cs reached stands sums refused =
     let same : dot r t.bulk (sum_of cs) ≡ dot r t.bulk b = sum-congr (λ k. t.bulk k *ℤ sum_of cs k) (λ k. t.bulk k *ℤ b k) r (λ k inside. ap (λ (x : ℤ). t.bulk k *ℤ x) (sums k inside)) in
     le_antisymm (dot r t.bulk b) (pos 0) (bulk_at_most r b basis t reached stands) (subst (λ (x : ℤ). pos 0 ≤ℤ x) same (sum_at_least r t cs refused))
 
+-- and then every unit column that is left in the basis has the value 0
 pub unit_value : (r : ℕ) (b : ℕ → ℤ) (basis : Basis) (t : BasisNumbers) (cs : List Column) → IsReached r b basis → Stands r basis t → SumTo r cs b → AllByRecursion (λ c. ¬ Improves r t c) cs → (i : ℕ) → i < r → item basis i ≡ None → value r b t i ≡ pos 0
 unit_value r b basis t cs reached stands sums refused = of_unit r b basis t reached stands (bulk_of_right_side r b basis t cs reached stands sums refused)
 
+-- the items, each taken n times its value, sum to n times the right side
 pub columns_sum : (r : ℕ) (b : ℕ → ℤ) (basis : Basis) (t : BasisNumbers) (n : ℤ) (y : ℕ → ℤ) → IsReached r b basis → Stands r basis t → AreMultiples r b t n y → (k : ℕ) → k < r → n *ℤ b k ≡ sum_below (λ i. y i *ℤ columns basis i k) r
 columns_sum r b basis t n y reached stands are k inside =
     let q : ℤ = reached.inverse.scale in
@@ -170,6 +176,7 @@ columns_sum r b basis t n y reached stands are k inside =
     unit_first : (r k : ℕ) (v : ℕ → ℤ) → k < r → dot r (unit k) v ≡ v k
     unit_first r k v inside = sum-congr (λ i. unit k i *ℤ v i) (λ i. v i *ℤ unit k i) r (λ i _. mul_comm (unit k i) (v i)) ∙ dot-unit r k v inside
 
+-- n times the fine price of the right side is the fine scale times n times the columns' values, summed
 pub fine_price : (r : ℕ) (b : ℕ → ℤ) (basis : Basis) (t : BasisNumbers) (n : ℤ) (y : ℕ → ℤ) → IsReached r b basis → Stands r basis t → AreMultiples r b t n y → n *ℤ dot r t.fine b ≡ t.fine_scale *ℤ sum_below (λ i. fine_costs basis i *ℤ y i) r
 fine_price r b basis t n y reached stands are =
     let q : ℤ = reached.inverse.scale in

@@ -23,6 +23,7 @@ agree_plain k i j ed dd xd em dm xm u v first second at_d at_e =
     let r = simp products at (ap (λ (t : ℤ). t *ℤ k) at_e) in
     omega (arith, ints, f, g, p, r)
 
+-- lists that have one value at d, and one at a combination of d and x in which x counts, have one at x
 pub agree : (q : Quadrant) (first second : Chain) (l m : Prices) (k i j : ℕ) (d x e : Direction) → 0 < j → IsIn q d → IsIn q x → IsIn q e → IsCombination k i j d x e → SameValueAt q first second l m d → SameValueAt q first second l m e → SameValueAt q first second l m x
 agree q first second l m k i j d x e above in_d in_x in_e is at_d at_e =
     let other : Chain = second_words q second in
@@ -34,6 +35,7 @@ agree q first second l m k i j d x e above in_d in_x in_e is at_d at_e =
     (list_den l) (list_den m)
     (values_combined k i j _ _ _ _ _ _ by.first by.second first other l) (values_combined k i j _ _ _ _ _ _ by.first by.second first other m) at_d at_e)
 
+-- two lists that are tight at a direction have one value there
 pub same_where_tight : (q : Quadrant) (first second : Chain) (l m : Prices) (d : Direction) → IsTightAt q first second l d → IsTightAt q first second m d → SameValueAt q first second l m d
 same_where_tight q first second l m d of_l of_m = unique (chain_of q first second d) _ _ _ _ of_l of_m
 
@@ -47,6 +49,7 @@ not_negative a h = omega (arith, ints)
 pub between_from_left : (d e x : Direction) → TurnsLeft d e → TurnsLeft e x → IsBetween d x e
 between_from_left d e x first second = record { after = not_negative (cross d e) first; before = not_negative (cross e x) second }
 
+-- lists that have one value at each of two directions have one at each direction further left in the quadrant
 pub agree_beyond : (q : Quadrant) (first second : Chain) (l m : Prices) (d e x : Direction) → IsIn q d → IsIn q e → IsIn q x → TurnsLeft d e → TurnsLeft e x → TurnsLeft d x → SameValueAt q first second l m d → SameValueAt q first second l m e → SameValueAt q first second l m x
 agree_beyond q first second l m d e x in_d in_e in_x left next all at_d at_e =
     agree q first second l m (unsigned_abs (cross d x)) (unsigned_abs (cross e x)) (unsigned_abs (cross d e)) d x e (size_above (cross d e) left) in_d in_x in_e
@@ -56,6 +59,7 @@ agree_beyond q first second l m d e x in_d in_e in_x left next all at_d at_e =
 pub tight_by_agreement : (q : Quadrant) (first second : Chain) (l m : Prices) (x : Direction) → pos 0 <ℤ list_den l → SameValueAt q first second l m x → IsTightAt q first second m x → IsTightAt q first second l x
 tight_by_agreement q first second l m x above same at_x = value_moved (chain_of q first second x) _ _ _ _ at_x above same
 
+-- of two lists that are tight at two directions, one is tight at a direction further left where the other is
 pub tight_beyond : (q : Quadrant) (first second : Chain) (l m : Prices) (d e x : Direction) → IsIn q d → IsIn q e → IsIn q x → TurnsLeft d e → TurnsLeft e x → TurnsLeft d x → IsTightAt q first second l d → IsTightAt q first second l e → IsTightAt q first second m d → IsTightAt q first second m e → IsTightAt q first second m x → IsTightAt q first second l x
 tight_beyond q first second l m d e x in_d in_e in_x left next all l_d l_e m_d m_e m_x =
     tight_by_agreement q first second l m x l_d.above

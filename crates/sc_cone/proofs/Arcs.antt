@@ -12,6 +12,7 @@ use Rattle.sc_cone.specs.Fans.{Corner, Edge, no_corner, no_edge, IsGoodCorner, I
 use Rattle.sc_cone.proofs.Turning.{turns_on}
 use Rattle.sc_cone.proofs.NextDirections.{not_tight_beyond}
 
+-- one corner, and no edge, is an arc
 pub arc_of_one : (q : Quadrant) (first second : Chain) (c : Corner) → IsGoodCorner q first second c → IsArc q first second (c ∷ []) []
 arc_of_one q first second c good = record {
   count = refl;
@@ -117,6 +118,7 @@ module _ (q : Quadrant) (first second : Chain) where
           | inr here ↦ moved_good (get_or cs i no_corner) (get_or ds i no_corner) (old i here) (good_at cs es arc i (omega (arith, size_cs)))
         ]
 
+    -- the arc with the new corner and edge at its end
     pub arc_pushed : IsArc q first second (before ++ d ∷ x ∷ []) (es ++ (record { from = d; to = x; list = list }) ∷ [])
     arc_pushed = record {
       count = omega (arith, size_fs, size_ds);
@@ -221,6 +223,7 @@ module _ (q : Quadrant) (first second : Chain) where
     in_d : IsIn q d.direction
     in_d = subst (λ (c : Corner). IsIn q c.direction) (was_last (length before) refl) (arc.within (length before) (omega (arith, size_old)))
 
+    -- the arc whose last edge goes on to the new corner, which stands in place of the last one
     pub arc_extended : IsArc q first second (before ++ x ∷ []) (es ++ (record { from = e.from; to = x; list = e.list }) ∷ [])
     arc_extended = record {
       count = omega (arith, size_new, size_new_edges, one_less);

@@ -30,6 +30,7 @@ not_negative a h = omega (arith, ints)
 size_above : (a : ℤ) → pos 0 <ℤ a → 0 < unsigned_abs a
 size_above a h = omega (arith, ints)
 
+-- what lies between two directions is a combination of them, by the areas that the three span
 pub combination : (d e x : Direction) → TurnsLeft d e → IsBetween d e x → IsCombination (unsigned_abs (cross d e)) (unsigned_abs (cross x e)) (unsigned_abs (cross d x)) d e x
 combination d e x left is =
     let k = from_zero (cross d e) (not_negative (cross d e) left) in
@@ -60,19 +61,23 @@ sum_not_positive k i j x d e above pd pe h =
     let negative : pos k *ℤ neg_ℤ x ≡ pos i *ℤ neg_ℤ d +ℤ pos j *ℤ neg_ℤ e = omega (arith, ints, h, mul_neg (pos k) x, mul_neg (pos i) d, mul_neg (pos j) e) in
     turned_back x (sum_not_negative k i j (neg_ℤ x) (neg_ℤ d) (neg_ℤ e) above (turned d pd) (turned e pe) negative)
 
+-- a combination of two directions of a quadrant lies in the quadrant
 pub combination_within : (q : Quadrant) (k i j : ℕ) (d e x : Direction) → 0 < k → IsIn q d → IsIn q e → IsCombination k i j d e x → IsIn q x
 combination_within Upper k i j d e x above in_d in_e is =
     (sum_not_negative k i j x.s d.s e.s above in_d.0 in_e.0 is.first, sum_not_negative k i j x.t d.t e.t above in_d.1 in_e.1 is.second)
 combination_within Lower k i j d e x above in_d in_e is =
     (sum_not_negative k i j x.s d.s e.s above in_d.0 in_e.0 is.first, sum_not_positive k i j x.t d.t e.t above in_d.1 in_e.1 is.second)
 
+-- and so does what lies between them
 pub within : (q : Quadrant) (d e x : Direction) → IsIn q d → IsIn q e → TurnsLeft d e → IsBetween d e x → IsIn q x
 within q d e x in_d in_e left is = combination_within q _ _ _ d e x (size_above (cross d e) left) in_d in_e (combination d e x left is)
 
+-- a covering list that is tight at two directions of a quadrant is tight at each combination of them
 pub tight_sums : (q : Quadrant) (first second : Chain) (list : Prices) (k i j : ℕ) (d e x : Direction) → IsChain first → IsChain second → Covers (quadrant_chain q first second) list → 0 < k → IsIn q d → IsIn q e → IsCombination k i j d e x → IsTightAt q first second list d → IsTightAt q first second list e → IsTightAt q first second list x
 tight_sums q first second list k i j d e x is_first is_second covers above in_d in_e is at_d at_e =
     tight_combined q first second list k i j d e x is_first is_second covers above in_d in_e (combination_within q k i j d e x above in_d in_e is) is at_d at_e
 
+-- and so at all that lies between them
 pub tight_between : (q : Quadrant) (first second : Chain) (list : Prices) (d e x : Direction) → IsChain first → IsChain second → Covers (quadrant_chain q first second) list → IsIn q d → IsIn q e → TurnsLeft d e → IsBetween d e x → IsTightAt q first second list d → IsTightAt q first second list e → IsTightAt q first second list x
 tight_between q first second list d e x is_first is_second covers in_d in_e left is at_d at_e =
     tight_sums q first second list _ _ _ d e x is_first is_second covers (size_above (cross d e) left) in_d in_e (combination d e x left is) at_d at_e

@@ -16,6 +16,7 @@ words_cone : (c d : Chain) (a b : ℕ) → words (cone c d a b) ≡ words (c ++ 
 words_cone [] d a b = words_times b d
 words_cone (u ∷ c) d a b = ap (λ (ws : List Word). u.1 ∷ ws) (words_cone c d a b)
 
+-- the chains of all directions of a quadrant, and the quadrant's chain, have the same words
 pub same_cones : (c d : Chain) (a b m n : ℕ) → Same (cone c d a b) (cone c d m n)
 same_cones c d a b m n = same_words (cone c d a b) (cone c d m n) (words_cone c d a b ∙ sym (words_cone c d m n))
 
@@ -25,6 +26,7 @@ same_quadrant c d a b = same_words (cone c d a b) (c ++ d) (words_cone c d a b)
 pub quadrant_same : (c d : Chain) (a b : ℕ) → Same (c ++ d) (cone c d a b)
 quadrant_same c d a b = same_words (c ++ d) (cone c d a b) (sym (words_cone c d a b))
 
+-- a list covers the chain of a direction exactly where it covers the quadrant's chain
 pub covers_all : (q : Quadrant) (first second : Chain) (list : Prices) (d : Direction) → Covers (quadrant_chain q first second) list ↔ Covers (chain_of q first second d) list
 covers_all q first second list d =
     let other : Chain = second_words q second in

@@ -56,6 +56,7 @@ value_combined : (k i j d l b l' b' m n : ℤ) → k *ℤ m ≡ i *ℤ l +ℤ j 
 value_combined k i j d l b l' b' m n e h = rw (double n, double b, double b') (value_plain k i j d l b l' b' m n e h)
 
 module _ (k i j a b a' b' m n : ℕ) (first : k * m ≡ i * a + j * a') (second : k * n ≡ i * b + j * b') (c d : Chain) where
+  -- at a combination of two directions a list's bound, the weighted length and a list's value are so combined
   pub bounds_combined : (list : Prices) → pos k *ℤ bound (cone c d m n) list ≡ pos i *ℤ bound (cone c d a b) list +ℤ pos j *ℤ bound (cone c d a' b') list
   bounds_combined list =
       let f : ℕ → ℤ = λ w. get_or list.base w (pos 0) in

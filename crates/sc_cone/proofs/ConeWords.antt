@@ -59,6 +59,7 @@ second_chain : (q : Quadrant) (second : Chain) → IsChain second → IsChain (s
 second_chain Lower second is = chain_of_inverses second is
 second_chain Upper second is = is
 
+-- over two chains the quadrant's chain is a chain, and so is that of each direction
 pub quadrant_is_chain : (q : Quadrant) (first second : Chain) → IsChain first → IsChain second → IsChain (quadrant_chain q first second)
 quadrant_is_chain q first second is_first is_second = chain_of_both first (second_words q second) is_first (second_chain q second is_second)
 
@@ -92,6 +93,7 @@ second_balanced : (q : Quadrant) (second : Chain) → IsBalanced second → IsBa
 second_balanced Lower second is g = total_inverses g second ∙ ap neg_ℤ (is g)
 second_balanced Upper second is g = is g
 
+-- over two balanced chains the chain of each direction is balanced
 pub is_balanced : (q : Quadrant) (first second : Chain) (d : Direction) → IsBalanced first → IsBalanced second → IsBalanced (chain_of q first second d)
 is_balanced q first second d of_first of_second g =
     let a : ℕ = unsigned_abs d.s in

@@ -62,6 +62,7 @@ pub record Round (first second : Chain) (n : ℕ) (turn : ℕ → Direction) (li
   pub tight : (i : ℕ) → suc i < n → IsTightAt (quadrant_from (turn i).t) first second (list i) (turn i) × IsTightAt (quadrant_from (turn i).t) first second (list i) (turn (suc i))
   pub apart : (i : ℕ) → suc (suc i) < n → quadrant_from (turn i).t ≡ quadrant_from (turn (suc i)).t → IsTightAt (quadrant_from (turn i).t) first second (list i) (turn (suc (suc i))) → ⊥
 
+-- the directions of a fan's corners, and its edges' lists, are such functions
 pub round : (f : Fan) → IsFan f → Round f.first f.second (length f.corners) (turn_to f) (λ i. (edge f i).list)
 round f is =
     let from : (i : ℕ) → suc i < length f.corners → quadrant_of f i ≡ quadrant_from (turn_to f i).t =
@@ -144,6 +145,7 @@ module _ (first second : Chain) (n : ℕ) (turn : ℕ → Direction) (list : ℕ
                 subst (λ (x : Direction). x.t ≤ℤ pos 0) (sym there) (omega (arith, ints))
           ]
 
+  -- from each corner to the next goes a leg, with the edge's list
   pub leg : (i : ℕ) → suc i < n → Leg first second (quadrant_from (turn i).t) (turn i) (turn (suc i)) (list i)
   leg i inside =
       let within = edge_within i inside in
@@ -186,6 +188,7 @@ module _ (first second : Chain) (n : ℕ) (turn : ℕ → Direction) (list : ℕ
 
 -- ---- two fans
 module _ (first second : Chain) (is_first : IsChain first) (is_second : IsChain second) where
+  -- two fans of the same chains have the same directions, as far as both have corners
   pub same_turns : (n n' : ℕ) (turn turn' : ℕ → Direction) (list list' : ℕ → Prices) → Round first second n turn list → Round first second n' turn' list' → (i : ℕ) → i < n → i < n' → turn i ≡ turn' i
   same_turns n n' turn turn' list list' is is' zero inside inside' = is.begins ∙ sym is'.begins
   same_turns n n' turn turn' list list' is is' (suc i) inside inside' =
@@ -207,6 +210,7 @@ module _ (first second : Chain) (is_first : IsChain first) (is_second : IsChain 
       let top : turn' k ≡ up = sym (same_turns (suc k) n' turn turn' list list' is is' k (omega arith) (omega arith)) ∙ is.ends k refl in
       nothing_after_up (turn' (suc k)) (is'.half (suc k) less) (subst (λ (d : Direction). TurnsLeft d (turn' (suc k))) top (is'.left k less))
 
+  -- and so as many corners
   pub same_count : (n n' : ℕ) (turn turn' : ℕ → Direction) (list list' : ℕ → Prices) → Round first second n turn list → Round first second n' turn' list' → n ≡ n'
   same_count n n' turn turn' list list' is is' =
       elim (cases_order n n') [

@@ -17,6 +17,7 @@ use Rattle.sc_cone.proofs.NextDirections.{more_at_first, less_at_second}
 difference : (a b f g h k u v : ℤ) → (a *ℤ f +ℤ b *ℤ g) *ℤ u -ℤ (a *ℤ h +ℤ b *ℤ k) *ℤ v ≡ a *ℤ (f *ℤ u -ℤ h *ℤ v) -ℤ b *ℤ (k *ℤ v -ℤ g *ℤ u)
 difference a b f g h k u v = simp products (omega (arith, ints))
 
+-- how much more one list gives than another at a direction, by `first_gap` and `second_gap`
 pub gaps : (q : Quadrant) (first second : Chain) (l m : Prices) (d : Direction) → list_num (chain_of q first second d) l *ℤ list_den m -ℤ list_num (chain_of q first second d) m *ℤ list_den l ≡ pos (unsigned_abs d.s) *ℤ first_gap first l m -ℤ pos (unsigned_abs d.t) *ℤ second_gap first second l m
 gaps q first second l m d =
     ap₂ (λ (x y : ℤ). x *ℤ list_den m -ℤ y *ℤ list_den l) (value_by_form q first second l d) (value_by_form q first second m d)
@@ -28,6 +29,7 @@ same_from x y z w e h = omega (arith, ints)
 same_to : (x y z w : ℤ) → x -ℤ y ≡ z -ℤ w → z ≡ w → x ≡ y
 same_to x y z w e h = omega (arith, ints)
 
+-- two lists have one value at a direction exactly where these two balance there
 pub crossing : (q : Quadrant) (first second : Chain) (l m : Prices) (d : Direction) → SameValueAt q first second l m d ↔ (pos (unsigned_abs d.s) *ℤ first_gap first l m ≡ pos (unsigned_abs d.t) *ℤ second_gap first second l m)
 crossing q first second l m d = (same_from _ _ _ _ (gaps q first second l m d), same_to _ _ _ _ (gaps q first second l m d))
 
@@ -51,6 +53,7 @@ one_sign a b c d (negsuc p) (negsuc t) h k =
     negatives : (x y : ℤ) → x *ℤ y ≡ neg_ℤ x *ℤ neg_ℤ y
     negatives x y = simp products (omega (arith, ints))
 
+-- between open neighbours the two have one sign, and neither is 0
 pub gaps_have_one_sign : (q : Quadrant) (first second : Chain) (r u : Reached) → IsChain first → IsChain second → IsReached q first second r → IsReached q first second u → IsIn q r.direction → IsIn q u.direction → TurnsLeft r.direction u.direction → IsOpen q first second r u → pos 0 <ℤ (first_gap first r.list u.list *ℤ second_gap first second r.list u.list)
 gaps_have_one_sign q first second r u is_first is_second got_r got_u in_r in_u left both_open =
     one_sign (unsigned_abs r.direction.s) (unsigned_abs r.direction.t) (unsigned_abs u.direction.s) (unsigned_abs u.direction.t) (first_gap first r.list u.list) (second_gap first second r.list u.list)

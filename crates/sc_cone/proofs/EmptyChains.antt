@@ -162,6 +162,7 @@ some_length : (n : ℕ) → (n ≡ 0 → ⊥) → 0 < n
 some_length zero none = absurd (none refl)
 some_length (suc n) none = omega arith
 
+-- where neighbours are open both chains have a weighted length above 0
 pub first_has_length : (q : Quadrant) (first second : Chain) (r u : Reached) → IsChain first → IsChain second → IsReached q first second r → IsReached q first second u → IsIn q r.direction → IsIn q u.direction → TurnsLeft r.direction u.direction → IsOpen q first second r u → 0 < weighted_length first
 first_has_length q first second r u is_first is_second got_r got_u in_r in_u left both_open =
     some_length (weighted_length first) (λ none. closed_without_first q first second r u is_first is_second got_r got_u in_r in_u left none both_open)

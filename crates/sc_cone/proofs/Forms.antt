@@ -80,6 +80,7 @@ length_second : (q : Quadrant) (second : Chain) → weighted_length (second_word
 length_second Lower second = length_inverses second
 length_second Upper second = refl
 
+-- the weighted length of a direction's chain is linear in the sizes of the coordinates
 pub length_by_form : (q : Quadrant) (first second : Chain) (d : Direction) → weighted_length (chain_of q first second d) ≡ unsigned_abs d.s * weighted_length first + unsigned_abs d.t * weighted_length second
 length_by_form q first second d =
     let a : ℕ = unsigned_abs d.s in
@@ -107,6 +108,7 @@ form_doubled d a b l m x y = simp products (omega (arith, ints))
 form_plain : (d a b l m x y : ℤ) → d *ℤ (a *ℤ l +ℤ b *ℤ m) -ℤ pos 2 *ℤ (a *ℤ x +ℤ b *ℤ y) ≡ a *ℤ (d *ℤ l -ℤ pos 2 *ℤ x) +ℤ b *ℤ (d *ℤ m -ℤ pos 2 *ℤ y)
 form_plain d a b l m x y = rw (two (a *ℤ x +ℤ b *ℤ y), two x, two y) (form_doubled d a b l m x y)
 
+-- a list's value at a direction, by its form and the sizes of the coordinates
 pub value_by_form : (q : Quadrant) (first second : Chain) (list : Prices) (d : Direction) → list_num (chain_of q first second d) list ≡ pos (unsigned_abs d.s) *ℤ first_form first list +ℤ pos (unsigned_abs d.t) *ℤ second_form first second list
 value_by_form q first second list d =
     let a : ℕ = unsigned_abs d.s in
@@ -122,6 +124,7 @@ abbrev pub signed : Quadrant → ℤ → ℤ
 signed Lower z = neg_ℤ z
 signed Upper z = z
 
+-- a list's value at a direction of a quadrant, as a linear function of the coordinates themselves
 pub value_signed : (q : Quadrant) (first second : Chain) (list : Prices) (d : Direction) → IsIn q d → list_num (chain_of q first second d) list ≡ d.s *ℤ first_form first list +ℤ d.t *ℤ signed q (second_form first second list)
 value_signed Upper first second list d within =
     value_by_form Upper first second list d ∙ ap₂ (λ (s t : ℤ). s *ℤ first_form first list +ℤ t *ℤ second_form first second list) (sym (from_zero d.s within.0)) (sym (from_zero d.t within.1))

@@ -198,6 +198,7 @@ module _ (first second : Chain) (before : List Corner) (c : Corner) (after : Lis
       twice : (i : ℕ) → length before ≤ i → suc (suc (i - length before)) ≡ suc (suc i) - length before
       twice i past = omega arith
 
+  -- halves in the two quadrants that share the corner on the first axis are together a fan
   pub fan_of_halves : IsFan (record { first = first; second = second; corners = before ++ c ∷ after; edges = es ++ fs })
   fan_of_halves = record {
     begins = sym (turn_low 0 (omega arith)) ∙ low.begins;

@@ -61,6 +61,7 @@ module _ (q : Quadrant) (first second : Chain) (l m : Prices) where
   t_part : ℤ
   t_part = signed q (second_form first second l) *ℤ list_den m -ℤ signed q (second_form first second m) *ℤ list_den l
 
+  -- how much more l gives than m, as a linear function of the direction
   pub surplus : Direction → ℤ
   surplus d = d.s *ℤ s_part +ℤ d.t *ℤ t_part
 
@@ -70,6 +71,7 @@ module _ (q : Quadrant) (first second : Chain) (l m : Prices) where
       ap₂ (λ (x y : ℤ). x *ℤ list_den m -ℤ y *ℤ list_den l) (value_signed q first second l d within) (value_signed q first second m d within)
       ∙ collected d.s d.t (first_form first l) (signed q (second_form first second l)) (first_form first m) (signed q (second_form first second m)) (list_den m) (list_den l)
 
+  -- of three directions: the surplus of x from those of d and e, by the areas that they span
   pub surplus_of_three : (d e x : Direction) → cross d e *ℤ surplus x ≡ cross x e *ℤ surplus d +ℤ cross d x *ℤ surplus e
   unfolding surplus
   surplus_of_three d e x = three_plain s_part t_part d.s d.t e.s e.t x.s x.t
@@ -170,6 +172,7 @@ both_or d e =
     ]
 
 module _ (q : Quadrant) (first second : Chain) (is_first : IsChain first) (is_second : IsChain second) (r u : Reached) (got_r : IsReached q first second r) (got_u : IsReached q first second u) (in_r : IsIn q r.direction) (in_u : IsIn q u.direction) (left : TurnsLeft r.direction u.direction) (both_open : IsOpen q first second r u) where
+  -- between open neighbours each list gives more at its own direction than the other's list does
   pub more_at_first : pos 0 <ℤ (list_num (chain_of q first second r.direction) r.list *ℤ list_den u.list -ℤ list_num (chain_of q first second r.direction) u.list *ℤ list_den r.list)
   more_at_first =
       let c : Chain = chain_of q first second r.direction in
@@ -222,6 +225,7 @@ module _ (q : Quadrant) (first second : Chain) (is_first : IsChain first) (is_se
       natural : (k : ℕ) → pos 0 ≤ℤ pos k
       natural k = omega (arith, ints)
 
+  -- the next direction is to the left of the one neighbour and to the right of the other
   pub next_between : (x : Direction) → IsNext q first second r u x → TurnsLeft r.direction x × TurnsLeft x u.direction
   next_between x is =
       elim (both_or r.direction u.direction) [
@@ -262,6 +266,7 @@ module _ (q : Quadrant) (first second : Chain) (is_first : IsChain first) (is_se
           let area : (cross d x) *ℤ pos k ≡ cross d e = sum_before d.s d.t e.s e.t x.s x.t (pos k) is.first is.second in
           zero_area (cross d x) (pos k) (cross d e) area none left
 
+  -- two neighbours have no more than one next direction
   pub next_is_one : (x y : Direction) → IsNext q first second r u x → IsNext q first second r u y → x ≡ y
   next_is_one x y is also =
       same_direction q x y is.within also.within is.primitive also.primitive

@@ -106,6 +106,7 @@ same_up a b p q e = from_zero a p ∙ ap pos e ∙ sym (from_zero b q)
 same_down : (a b : ℤ) → a ≤ℤ pos 0 → b ≤ℤ pos 0 → unsigned_abs a ≡ unsigned_abs b → a ≡ b
 same_down a b p q e = omega (arith, ints, to_zero a p, to_zero b q, e)
 
+-- directions of one quadrant whose coordinates have the same sizes are the same
 pub same_within : (q : Quadrant) (d e : Direction) → IsIn q d → IsIn q e → unsigned_abs d.s ≡ unsigned_abs e.s → unsigned_abs d.t ≡ unsigned_abs e.t → d ≡ e
 same_within Upper d e in_d in_e p r =
     let s = same_up d.s e.s in_d.0 in_e.0 p in
@@ -116,6 +117,7 @@ same_within Lower d e in_d in_e p r =
     let t = same_down d.t e.t in_d.1 in_e.1 r in
     λ k. record { s = s k; t = t k }
 
+-- primitive directions of one quadrant that span no area are the same
 pub same_direction : (q : Quadrant) (d e : Direction) → IsIn q d → IsIn q e → IsPrimitive d → IsPrimitive e → cross d e ≡ pos 0 → d ≡ e
 same_direction q d e in_d in_e prim_d prim_e flat =
     let level : d.s *ℤ e.t ≡ d.t *ℤ e.s = equal (d.s *ℤ e.t) (d.t *ℤ e.s) flat in

@@ -29,6 +29,7 @@ module _ (f g : Fan) (of_first : f.first ≡ g.first) (of_second : f.second ≡ 
       subst (λ (c : Chain). Round f.first c (length g.corners) (turn_to g) (lists g)) (sym of_second)
       (subst (λ (c : Chain). Round c g.second (length g.corners) (turn_to g) (lists g)) (sym of_first) (round g is_g))
 
+  -- the fans have as many corners, in the same directions, and their values are the same as fractions
   pub as_many : length f.corners ≡ length g.corners
   as_many =
       same_count f.first f.second is_first is_second (length f.corners) (length g.corners) (turn_to f) (turn_to g) (lists f) (lists g) (round f is_f) round_of_g

@@ -60,6 +60,7 @@ same_words c d e = record {
 }
 
 module _ (c d : Chain) (same : Same c d) where
+  -- chains with the same words have the same steps, closed walks and prices, and the same lists cover them
   pub succ_same : (i : ℕ) → succ c i ≡ succ d i
   succ_same i =
       let first_c : ℕ → ℕ = first c in

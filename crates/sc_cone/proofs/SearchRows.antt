@@ -40,6 +40,7 @@ ends_turn Lower = omega (arith, ints)
 ends_turn Upper = omega (arith, ints)
 
 module _ (q : Quadrant) (first second : Chain) where
+  -- what is asked of each entry of a row
   pub record Stop (r : Reached) : Type 0 where
     pub within : IsIn q r.direction
     pub primitive : IsPrimitive r.direction
@@ -140,9 +141,11 @@ module _ (q : Quadrant) (first second : Chain) where
     left = left_at rs es.row;
   }
 
+  -- a search is a row: primitive directions from end to end, each with a list that is tight there
   pub search_is_row : IsChain first → IsChain second → (rs : List Reached) → IsSearch q first second rs → IsRow q first second rs
   search_is_row is_first is_second rs search = from_entries rs (entries is_first is_second rs search)
 
+-- open neighbours of a row are a gap
 pub gap_in : (q : Quadrant) (first second : Chain) (rs : List Reached) (i : ℕ) → IsRow q first second rs → suc i < length rs → IsOpen q first second (reached rs i) (reached rs (suc i)) → IsGap q first second (reached rs i) (reached rs (suc i))
 gap_in q first second rs i row inside opened = record {
   here = row.tight i (omega arith);
@@ -166,6 +169,7 @@ put_in (r ∷ []) i x inside = absurd (omega arith)
 put_in (r ∷ u ∷ rs) zero x inside = refl
 put_in (r ∷ u ∷ rs) (suc i) x inside = ap (λ (rest : List Reached). r ∷ rest) (put_in (u ∷ rs) i x (omega arith))
 
+-- a search with a next direction put in before the entry i + 1 is a search
 pub grown_at : (q : Quadrant) (first second : Chain) (rs : List Reached) (i : ℕ) (x : Reached) → IsSearch q first second rs → suc i < length rs → IsOpen q first second (reached rs i) (reached rs (suc i)) → IsNext q first second (reached rs i) (reached rs (suc i)) x.direction → IsReached q first second x → IsSearch q first second (insert rs (suc i) x)
 grown_at q first second rs i x search inside opened next got =
     subst (IsSearch q first second) (sym (put_in rs i x inside))

@@ -20,6 +20,7 @@ at_most_product a l some = omega (arith, mul-le-mul_left a some)
 bounded : (a b l m n : ℕ) → 0 < l → 0 < m → n ≡ a * l + b * m → (a ≤ n) × (b ≤ n)
 bounded a b l m n some more e = (omega (arith, e, at_most_product a l some), omega (arith, e, at_most_product b m more))
 
+-- over chains that have length no coordinate of a direction is above the weighted length of its chain
 pub coordinates : (q : Quadrant) (first second : Chain) (d : Direction) → 0 < weighted_length first → 0 < weighted_length second → (unsigned_abs d.s ≤ weighted_length (chain_of q first second d)) × (unsigned_abs d.t ≤ weighted_length (chain_of q first second d))
 coordinates q first second d some more =
     bounded (unsigned_abs d.s) (unsigned_abs d.t) (weighted_length first) (weighted_length second) _ some more (length_by_form q first second d)
@@ -80,6 +81,7 @@ module _ (q : Quadrant) (first second : Chain) (rs : List Reached) (row : IsRow 
         let left : TurnsLeft (reached rs i).direction (reached rs j).direction = subst (λ (m : ℕ). TurnsLeft (reached rs i).direction (reached rs m).direction) split (far_left k i (omega arith)) in
         no_turn (reached rs j).direction (subst (λ (d : Direction). TurnsLeft d (reached rs j).direction) same left)
 
+    -- a row in which no coordinate is above n has at most as many entries as there are pairs of numbers up to n
     pub short : length rs ≤ suc n * suc n
     short =
         elim (cases_lt (suc n * suc n) (length rs)) [

@@ -39,6 +39,7 @@ ribbon_of c n g is = record {
   follows = is.follows;
 }
 
+-- over chains with the same words the ribbons are the same
 pub ribbon_same : (c d : Chain) (g : Sides) → Same c d → IsRibbon c g → IsRibbon d g
 ribbon_same c d g same is = record {
   labels = λ s inside. subst (λ (n : ℕ). label g s < n) same.all (is.labels s inside);
@@ -121,6 +122,7 @@ module _ (g h : Sides) where
             subst P e (of_h k (omega (arith, length_joined g h)))
       ]
 
+  -- as many sides have a label as in both
   pub sides_joined : (i : ℕ) → sides_at (joined g h) i ≡ sides_at g i + sides_at h i
   sides_joined i =
       ap (count_below (λ s. label (joined g h) s == i)) (length_joined g h)
@@ -130,6 +132,7 @@ module _ (g h : Sides) where
       (count-congr (λ s. label (joined g h) (length g + s) == i) (λ s. label h s == i) (length h) (λ s inside. ap (λ (x : ℕ). x == i) (label_right s inside)))
 
 module _ (c : Chain) (g h : Sides) (a : IsRibbon c g) (b : IsRibbon c h) where
+  -- two ribbons side by side are one, with the vertices and the costs of both
   pub ribbon_joined : IsRibbon c (joined g h)
   ribbon_joined =
       let j : Sides = joined g h in
@@ -222,6 +225,7 @@ module _ (c : Chain) (g h : Sides) (a : IsRibbon c g) (b : IsRibbon c h) where
 
 -- ---- copies of one
 module _ (c : Chain) (g : Sides) (a : IsRibbon c g) where
+  -- k copies of a ribbon are one, with k times the sides, labels, vertices and cost
   pub ribbon_copies : (k : ℕ) → IsRibbon c (copies_of k g)
   ribbon_copies zero = no_sides c
   ribbon_copies (suc k) = ribbon_joined c g (copies_of k g) a (ribbon_copies k)
@@ -244,6 +248,7 @@ module _ (c : Chain) (g : Sides) (a : IsRibbon c g) where
 
 -- ---- copies of two
 module _ (c : Chain) (g h : Sides) (a : IsRibbon c g) (b : IsRibbon c h) (i j : ℕ) where
+  -- the same for i copies of one and j of another
   pub ribbon_together : IsRibbon c (together i g j h)
   ribbon_together = ribbon_joined c (copies_of i g) (copies_of j h) (ribbon_copies c g a i) (ribbon_copies c h b j)
 

@@ -7,6 +7,7 @@ use Rattle.sc_cone.specs.declared.Quadrant.{Quadrant}
 use Rattle.sc_cone.specs.declared.Quadrant.TheVariants.{Lower, Upper}
 use Rattle.sc_cone.specs.Directions.{IsIn, IsCombination}
 
+-- a number that isn't negative is its size, and the negative of one that isn't positive is
 pub from_zero : (a : ℤ) → pos 0 ≤ℤ a → a ≡ pos (unsigned_abs a)
 from_zero a h = omega (arith, ints)
 
@@ -32,6 +33,7 @@ pub record Combined (k i j : ℕ) (d e x : Direction) : Type 0 where
   pub first : k * unsigned_abs x.s ≡ i * unsigned_abs d.s + j * unsigned_abs e.s
   pub second : k * unsigned_abs x.t ≡ i * unsigned_abs d.t + j * unsigned_abs e.t
 
+-- a combination within a quadrant is one of the sizes: there the coordinates have one sign each
 pub combined : (q : Quadrant) (k i j : ℕ) (d e x : Direction) → IsIn q d → IsIn q e → IsIn q x → IsCombination k i j d e x → Combined k i j d e x
 combined Upper k i j d e x in_d in_e in_x is = record {
   first = sizes_up k i j x.s d.s e.s in_x.0 in_d.0 in_e.0 is.first;

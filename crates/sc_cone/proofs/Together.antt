@@ -50,6 +50,7 @@ module _ (c d : Chain) (k i j a b a' b' x y : ℕ) (above : 0 < k) (first_sum : 
       ∙ ap₂ (λ (s t : ℕ). (i * m) * s + (j * n) * t) of_g of_h
       ∙ counted k i j n m _ _ _ (weights_combined k i j a b a' b' x y first_sum second_sum c d w)
 
+  -- copies of the two, so many that the counts fit, are a labelled fatgraph over the combination
   pub fatgraph_together : IsFatgraph (cone c d x y) (k * (n * m)) (together (i * m) g (j * n) h)
   fatgraph_together =
       let is = ribbon_together (cone c d x y) g h left_ribbon right_ribbon (i * m) (j * n) in
@@ -66,12 +67,14 @@ module _ (c d : Chain) (k i j a b a' b' x y : ℕ) (above : 0 < k) (first_sum : 
         counts = counts;
       }
 
+  -- a list that is tight for both is tight for it
   pub tight_together : (list : Prices) → IsTight (cone c d a b) list n g → IsTight (cone c d a' b') list m h → IsTight (cone c d x y) list (k * (n * m)) (together (i * m) g (j * n) h)
   tight_together list tight tight' =
       ap (λ (t : ℕ). list.scale *ℤ pos t) (vertices_together (cone c d x y) g h left_ribbon right_ribbon (i * m) (j * n))
       ∙ tight_sum list.scale (pos (vertices g)) (pos (vertices h)) (bound (cone c d a b) list) (bound (cone c d a' b') list) (bound (cone c d x y) list) (pos k) (pos i) (pos j) (pos n) (pos m)
       tight tight' (bounds_combined k i j a b a' b' x y first_sum second_sum c d list)
 
+-- a labelled fatgraph over the chain of a direction is a ribbon over the quadrant's chain
 pub ribbon_at : (q : Quadrant) (first second : Chain) (d : Direction) (n : ℕ) (g : Sides) → IsFatgraph (chain_of q first second d) n g → IsRibbon (quadrant_chain q first second) g
 ribbon_at q first second d n g is =
     ribbon_same (chain_of q first second d) (quadrant_chain q first second) g (same_quadrant first (second_words q second) (unsigned_abs d.s) (unsigned_abs d.t)) (ribbon_of (chain_of q first second d) n g is)

@@ -30,6 +30,7 @@ product_positive (pos zero) b low h = absurd (omega (arith, ints, zero-mul b))
 product_positive (pos (suc a)) b low h = omega (arith, ints)
 product_positive (negsuc a) b low h = absurd (omega (arith, ints, mul_comm (negsuc a) b, mul-le_factor b (negsuc a) (pos 0) low (omega (arith, ints)), mul-zero b))
 
+-- what is to the right of a direction on or below the first axis is below it
 pub below_before : (s t s' t' : ℤ) → pos 0 ≤ℤ s → pos 0 ≤ℤ s' → t' ≤ℤ pos 0 → pos 0 <ℤ (s *ℤ t' -ℤ t *ℤ s') → t <ℤ pos 0
 below_before s t s' t' low low' below h =
     let first : (s *ℤ t') ≤ℤ (s *ℤ pos 0) = mul-le_factor s t' (pos 0) low below in
@@ -42,6 +43,7 @@ below_before s t s' t' low low' below h =
     turn_sign : (t : ℤ) → pos 0 <ℤ (pos 0 -ℤ t) → t <ℤ pos 0
     turn_sign t h = omega (arith, ints)
 
+-- and what is to the left of one on or above it is above it
 pub above_after : (s t s' t' : ℤ) → pos 0 ≤ℤ s → pos 0 ≤ℤ s' → pos 0 ≤ℤ t → pos 0 <ℤ (s *ℤ t' -ℤ t *ℤ s') → pos 0 <ℤ t'
 above_after s t s' t' low low' above h =
     let second : (t *ℤ pos 0) ≤ℤ (t *ℤ s') = mul-le_factor t (pos 0) s' above low' in
@@ -87,6 +89,7 @@ left_part s t s' t' low down' down h =
     turned_back : (a b : ℤ) → a *ℤ neg_ℤ b ≡ neg_ℤ (b *ℤ a)
     turned_back a b = simp products (omega (arith, ints))
 
+-- within a quadrant, to the left of what is to the left is to the left
 pub turns_on : (q : Quadrant) (d e x : Direction) → IsIn q d → IsIn q e → IsIn q x → TurnsLeft d e → TurnsLeft e x → TurnsLeft d x
 turns_on Upper d e x in_d in_e in_x left next =
     by_parts (cross d x) (cross d e) (cross e x) e.s x.s d.s (through_s d.s d.t e.s e.t x.s x.t) left next in_e.0 in_x.0 (right_part d.s d.t e.s e.t in_d.1 in_e.0 in_e.1 left)

@@ -128,6 +128,7 @@ module _ (c d : Chain) (n : ℕ) (g : Sides) where
             absurd (omega (arith, count_found (λ r. label g r == i) (length g) s inside (eq-eqb i i refl), unused))
       ]
 
+  -- a labelled fatgraph over c with the words of d at weight 0 is one over c, and the other way round
   pub without_unused : IsFatgraph (c ++ times 0 d) n g → IsFatgraph c n g
   without_unused is =
       let e : Chain = times 0 d in
@@ -174,6 +175,7 @@ once (u ∷ c) =
     let one : 1 * u.0 ≡ u.0 = omega arith in
     ap (λ (m : ℕ). (m, u.1) ∷ times 1 c) one ∙ ap (λ (rest : Chain). u ∷ rest) (once c)
 
+-- at the first axis the labelled fatgraphs are those of the first chain
 pub axis_fatgraphs : (q : Quadrant) (first second : Chain) (n : ℕ) (g : Sides) → IsFatgraph (chain_of q first second right) n g ↔ IsFatgraph first n g
 axis_fatgraphs q first second n g =
     let d : Chain = second_words q second in
@@ -191,6 +193,7 @@ value_from_fatgraphs c d same num den v = record {
   fraction = v.fraction;
 }
 
+-- and the values are its values
 pub axis_value : (q : Quadrant) (first second : Chain) (num den : ℤ) → IsValueOf (chain_of q first second right) num den ↔ IsValueOf first num den
 axis_value q first second num den =
     let same = axis_fatgraphs q first second in (
@@ -198,5 +201,6 @@ axis_value q first second num den =
       value_from_fatgraphs first (chain_of q first second right) (λ n g. ((same n g).1, (same n g).0)) num den,
     )
 
+-- so that both quadrants have the same values there
 pub axis_quadrants : (q r : Quadrant) (first second : Chain) (num den : ℤ) → IsValueOf (chain_of q first second right) num den → IsValueOf (chain_of r first second right) num den
 axis_quadrants q r first second num den v = (axis_value r first second num den).1 ((axis_value q first second num den).0 v)

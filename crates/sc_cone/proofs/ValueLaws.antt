@@ -44,9 +44,11 @@ module _ (c : Chain) (list : Prices) (n : ℕ) (g : Sides) (is : IsFatgraph c n 
   key =
       gap list.scale (bound c list) (weighted_length c) n (edges g) (vertices g) (sym (length_is c n g is) ∙ even_sides c n g is)
 
+  -- a list is tight for a labelled fatgraph exactly where the list's value is the cost over twice the copies
   pub tight_is : IsTight c list n g ↔ (list_num c list *ℤ pos (2 * n) ≡ cost g *ℤ list_den list)
   tight_is = (level _ _ _ _ key, level_back _ _ _ _ key)
 
+  -- and where it covers, its value is at most that
   pub bounded : IsChain c → Covers c list → (list_num c list *ℤ pos (2 * n)) ≤ℤ (cost g *ℤ list_den list)
   bounded chain covers = below _ _ _ _ key (duality c list n g is chain covers)
 
@@ -68,6 +70,7 @@ twice_over k k' n n' h =
 above_twice : (n n' : ℕ) → 0 < n → 0 < n' → 0 < (2 * n) * (2 * n')
 above_twice n n' h h' = grind arith
 
+-- a chain has one value
 pub unique : (c : Chain) (p q p' q' : ℤ) → IsValueOf c p q → IsValueOf c p' q' → p *ℤ q' ≡ p' *ℤ q
 unique c p q p' q' v v' =
     let n : ℕ = v.copies in
@@ -86,6 +89,7 @@ at_most_plain a x p q k d e h =
 not_below : (q : ℤ) → pos 0 <ℤ q → pos 0 ≤ℤ q
 not_below q h = omega (arith, ints)
 
+-- the value of a covering list is at most the chain's value
 pub at_most : (c : Chain) (list : Prices) (p q : ℤ) → IsChain c → Covers c list → IsValueOf c p q → (list_num c list *ℤ q) ≤ℤ (p *ℤ list_den list)
 at_most c list p q chain covers v =
     let n : ℕ = v.copies in
@@ -100,6 +104,7 @@ at_most c list p q chain covers v =
 four_above : (d : ℤ) → pos 0 <ℤ d → pos 0 <ℤ (pos 4 *ℤ d)
 four_above d h = omega (arith, ints)
 
+-- a covering list that is tight for some labelled fatgraph has the chain's value
 pub value_from_tight : (c : Chain) (list : Prices) (n : ℕ) (g : Sides) → IsChain c → pos 0 <ℤ list.scale → Covers c list → IsFatgraph c n g → IsTight c list n g → IsValueOf c (list_num c list) (list_den list)
 value_from_tight c list n g chain above covers is tight = record {
   copies = n;
@@ -110,6 +115,7 @@ value_from_tight c list n g chain above covers is tight = record {
   fraction = (tight_is c list n g is).0 tight;
 }
 
+-- a list that has the chain's value is tight for a least labelled fatgraph, and its scale is positive
 pub tight_from_value : (c : Chain) (list : Prices) (v : IsValueOf c (list_num c list) (list_den list)) → IsTight c list v.copies v.sides
 tight_from_value c list v = (tight_is c list v.copies v.sides v.fatgraph).1 v.fraction
 
@@ -143,6 +149,7 @@ moved_plain a p q p' q' k e h =
 not_zero : (q : ℤ) → pos 0 <ℤ q → q ≡ pos 0 → ⊥
 not_zero q h e = omega (arith, ints)
 
+-- a fraction of the same number, with a positive denominator, is the value too
 pub value_moved : (c : Chain) (p q p' q' : ℤ) → IsValueOf c p q → pos 0 <ℤ q' → p' *ℤ q ≡ p *ℤ q' → IsValueOf c p' q'
 value_moved c p q p' q' v above same = record {
   copies = v.copies;

@@ -20,14 +20,17 @@ module _ (f : Fan) (is : IsFan f) where
   inner : (i : ℕ) → i < length f.edges → suc i < length f.corners
   inner i inside = omega (arith, is.count)
 
+  -- the quadrant of an edge is told by the corner at which it begins
   pub quadrant_is : (i : ℕ) → i < length f.edges → quadrant_from (turn_to f i).t ≡ quadrant_of f i
   quadrant_is i inside = sym (ap (λ (c : Corner). quadrant_from c.direction.t) (is.joins i inside).0)
 
+  -- both ends of an edge lie in its quadrant
   pub edge_in : (i : ℕ) → i < length f.edges → IsIn (quadrant_of f i) (turn_to f i) × IsIn (quadrant_of f i) (turn_to f (suc i))
   edge_in i inside =
       subst (λ (q : Quadrant). IsIn q (turn_to f i) × IsIn q (turn_to f (suc i))) (quadrant_is i inside)
       (edge_within f.first f.second (length f.corners) (turn_to f) (λ j. (edge f j).list) all i (inner i inside))
 
+  -- on the cone of an edge the edge's list is tight
   pub value_on_cone : IsChain f.first → IsChain f.second → (i : ℕ) (x : Direction) → i < length f.edges → IsBetween (turn_to f i) (turn_to f (suc i)) x → IsTightAt (quadrant_of f i) f.first f.second (edge f i).list x
   value_on_cone is_first is_second i x inside between =
       let within = edge_in i inside in
@@ -90,6 +93,7 @@ module _ (f : Fan) (is : IsFan f) where
         | inr none ↦ absurd (apart_axes (sym all.passes.2 ∙ is.ends all.passes.0 (omega (arith, all.passes.1))))
       ]
 
+  -- each direction of a quadrant lies in the cone of an edge of that quadrant
   pub cones_cover : (q : Quadrant) (x : Direction) → IsIn q x → (i : ℕ) × (i < length f.edges) × (quadrant_of f i ≡ q) × IsBetween (turn_to f i) (turn_to f (suc i)) x
   cones_cover Lower x within =
       let k : ℕ = all.passes.0 - 1 in

@@ -68,6 +68,7 @@ IsLcm-from_gcd x y g some h =
           dvd_of_mul-dvd-mul_left (x / g * y) pos_g scaled;
     }
 
+-- two numbers have one least common multiple
 pub same_from_IsLcm : (x y m n : ℕ) → IsLcm x y m → IsLcm x y n → m ≡ n
 same_from_IsLcm x y m n p q = dvd_antisymm (p.least n q.of_first q.of_second) (q.least m p.of_first p.of_second)
 

@@ -18,6 +18,7 @@ exact_quotient (negsuc n) g h = times_negative g (suc n / g) ∙ ap (λ k. neg_�
 least_multiple : (n g : ℕ) → n < 2 ^ 127 → 2 ^ 127 ≤ g → g ∣ suc n → g ≡ suc n
 least_multiple n g small large h = omega (arith, le_of_dvd {m = g} {n = suc n} (omega arith) h)
 
+-- a number of 128 bits, divided by one of its divisors that is at least 2^127, gives its sign
 pub wide_quotient : (x : ℤ) (g : ℕ) → FitsSigned w128 x → 2 ^ 127 ≤ g → g ∣ unsigned_abs x → int_signum x ≡ int_div x (pos g)
 wide_quotient (pos zero) g fits large h = ap pos (sym (zero-div g))
 wide_quotient (pos (suc n)) g fits large h = let small = fits.sfits in absurd (omega (arith, le_of_dvd {m = g} {n = suc n} (omega arith) h))
@@ -26,5 +27,6 @@ wide_quotient (negsuc n) g fits large h =
     let one : suc n / g ≡ 1 = ap (λ k. suc n / k) whole ∙ div_self (omega arith) in
     ap (λ k. neg_ℤ (pos k)) (sym one)
 
+-- a natural number outside `i128` is at least 2^127
 pub not_fits : (n : ℕ) → ¬ FitsSigned w128 (pos n) → 2 ^ 127 ≤ n
 not_fits n h = elim (cases_lt n (2 ^ 127)) [ inl l ↦ absurd (h (record { sfits = l })) | inr g ↦ g ]

@@ -28,6 +28,7 @@ unfolding natural_of natural_spelling
 natural_of-spelling zero = refl
 natural_of-spelling (suc n) = ap (number_from_digits 10) (map_back (digits_of 10 (suc n))) ∙ number_digits_of 10 (suc n) (omega arith)
 
+-- no two natural numbers have one spelling
 pub natural_spelling-injective : (m n : ℕ) → natural_spelling m ≡ natural_spelling n → m ≡ n
 natural_spelling-injective m n e = sym (natural_of-spelling m) ∙ ap natural_of e ∙ natural_of-spelling n
 
@@ -49,6 +50,7 @@ digits_of_map : (ds : List ℕ) → AllBelowBase 10 ds → AllByRecursion (IsInR
 digits_of_map [] h = tt
 digits_of_map (d ∷ ds) h = let small = h.0 in ((omega arith, omega arith), digits_of_map ds h.1)
 
+-- the spelling of a natural number is of digits alone
 pub digits-natural_spelling : (n : ℕ) → AllByRecursion (IsInRange 48 57) (natural_spelling n)
 unfolding natural_spelling
 digits-natural_spelling zero = ((omega arith, omega arith), tt)
@@ -59,6 +61,7 @@ ascii_from_digits [] h i = omega arith
 ascii_from_digits (c ∷ cs) h zero = let digit = h.0 in omega arith
 ascii_from_digits (c ∷ cs) h (suc i) = ascii_from_digits cs h.1 i
 
+-- a spelling is ASCII, and so UTF-8
 pub IsAscii-spelling : (z : ℤ) → IsAscii (spelling z)
 unfolding spelling
 IsAscii-spelling (pos n) i = ascii_from_digits (natural_spelling n) (digits-natural_spelling n) i
@@ -92,6 +95,7 @@ decimal_digits_of n some small = decimal_by_steps_wide (λ m ds. 0 < m → ds �
     (λ m ds l h a. ap (λ x. x ++ ((48 + m % 10) ∷ [])) (h (omega arith)) ∙ sym (map_push (λ d. 48 + d) (digits_of 10 (m / 10)) (m % 10)) ∙ ap (map (λ d. 48 + d)) (sym (digits_of_step 10 m (omega arith) a)))
     n small some
 
+-- what std prints of a natural number, and of one with a sign, is the one spelling
 pub decimal_is_spelling : (n : ℕ) → n < 10 ^ 64 → decimal n ≡ natural_spelling n
 decimal_is_spelling zero h = decimal_digit 0 (omega arith) ∙ zero_is_spelling
 decimal_is_spelling (suc n) h = decimal_digits_of (suc n) (omega arith) h ∙ digits_are_spelling (suc n) (omega arith)
@@ -114,6 +118,7 @@ parse_signed_decimal (negsuc n) r fits h =
     let read = parse_signed_minus (numerals_by_value _ tells_digits) w128 (45 ∷ decimal (suc n)) r h refl in
     Ok-from_Ok_iff r _ _ read (k.0.1, k.0.0, omega (arith, k.1, fits.sfits)) ∙ ap (λ m. Ok (neg_ℤ (pos m))) k.1
 
+-- std's `parse` reads a spelling as the number that it spells
 pub parse_spelling : {E : Type 0} (bs : List ℕ) (z : ℤ) (r : Result ℤ E) → FitsSigned w128 z → bs ≡ spelling z → ParsesSigned w128 10 bs r → r ≡ Ok z
 parse_spelling bs z r fits e h = parse_signed_decimal z r fits (subst (λ l. ParsesSigned w128 10 l r) (e ∙ sym (signed_decimal_is_spelling z fits)) h)
 
