@@ -1,15 +1,10 @@
 -- Laws of taking and delivering bytes in pieces.
-use Rattle.std.proofs.Common.{◌≡◌, ℕ, Bool, IsTrue, inl, inr, ◌+◌, ◌-◌, ◌≤◌, Option, None, Some, List, [], ◌++◌, length, take, drop, sym, ap, ◌∙◌, append_assoc, append-nil, subst, arith}
+use Rattle.std.proofs.Common.{◌≡◌, ℕ, ◌+◌, ◌-◌, ◌≤◌, Option, None, Some, List, ◌++◌, length, take, drop, sym, ap, ◌∙◌, append_assoc, subst, arith}
 use Rattle.std.proofs.Math.Seq.{take-add, take-append-add}
 use Rattle.std.proofs.lemmas.List.{take_all, take_at, take-append-drop, drop-drop, length-drop, length-take, length-take-le, take-append-le, drop_at, length-append}
 use Rattle.std.proofs.KnownBytes.{Consumes-trans}
 use Rattle.std.specs.Io.KnownBytes.{Consumes}
 use Rattle.sc_outside.specs.Told.{Delivered, Took, TookPart}
-use Rattle.sc_outside.specs.Faults.{Rose}
-
-pub Took-nil : (a : Option (List ℕ)) → Took a a []
-Took-nil None = tt
-Took-nil (Some x) = sym (append-nil x)
 
 pub Took-trans : (a b c : Option (List ℕ)) (bs cs : List ℕ) → Took a b bs → Took b c cs → Took a c (bs ++ cs)
 Took-trans a b None bs cs p q = tt
@@ -20,10 +15,6 @@ Took-trans (Some x) (Some y) (Some z) bs cs p q = q ∙ ap (λ l. l ++ cs) p ∙
 -- one more piece of a text
 pub Took-more : (a b c : Option (List ℕ)) (text : List ℕ) (i k : ℕ) → Took a b (take i text) → Took b c (take k (drop i text)) → Took a c (take (i + k) text)
 Took-more a b c text i k p q = subst (Took a c) (sym (take-add i k text)) (Took-trans a b c _ _ p q)
-
--- a call that took nothing
-pub Took-kept : (a b c : Option (List ℕ)) (bs : List ℕ) → Took a b bs → Took b c [] → Took a c bs
-Took-kept a b c bs p q = subst (Took a c) (append-nil bs) (Took-trans a b c bs [] p q)
 
 -- the slice from place i on is all that is left there
 pub slice_from : (i : ℕ) (text : List ℕ) → take (length text - i) (drop i text) ≡ drop i text
@@ -79,8 +70,3 @@ given_next items front others i k e h =
 pub TookPart-after : (a b c : Option (List ℕ)) (bs cs : List ℕ) → Took a b bs → TookPart b c cs → TookPart a c (bs ++ cs)
 TookPart-after a b c bs cs p q =
     (length bs + q.0, omega (arith, q.1, length-append bs cs), subst (Took a c) (sym (take-append-add bs cs q.0)) (Took-trans a b c bs _ p q.2))
-
--- a count that rose before goes on to have risen
-pub Rose-later : (a b c : ℕ) (s t : Bool) → Rose a b s → b ≤ c → (IsTrue s → IsTrue t) → Rose a c t
-Rose-later a b c s t (inl rise) le on = inl (omega arith)
-Rose-later a b c s t (inr last) le on = inr (on last)

@@ -1,5 +1,5 @@
 -- Words of draws: their letters and their length.
-use Rattle.std.proofs.Common.{◌≡◌, ℕ, zero, suc, ◌+◌, ◌-◌, ◌*◌, ◌%◌, ◌<◌, ◌≤◌, Bool, true, false, not, List, [], ◌∷◌, ◌++◌, length, map, reverse, take, drop, get_or, All, Option, None, Some, IfSome, pos, refl, ap, ap₂, sym, ◌∙◌, subst, arith, add-one, inl, inr}
+use Rattle.std.proofs.Common.{◌≡◌, ℕ, zero, suc, ◌+◌, ◌-◌, ◌*◌, ◌%◌, ◌<◌, ◌≤◌, Bool, not, List, [], ◌∷◌, ◌++◌, length, reverse, take, drop, get_or, All, Option, None, Some, refl, ap, ap₂, sym, ◌∙◌, subst, arith, inl, inr}
 use Rattle.std.specs.List.{filter}
 use Rattle.std.proofs.lemmas.Bool.{cases_Bool, cond-true, cond-false}
 use Rattle.std.proofs.lemmas.List.{length-append, length-reverse, length-map, length-take-le, length-drop}
@@ -11,7 +11,7 @@ use Rattle.sc_theory.specs.declared.Letter.{Letter}
 use Rattle.sc_theory.specs.Words.{Word, inverse_letter, inverse_word, is_inverse}
 use Rattle.sc_theory.specs.Chains.{no_letter}
 use Rattle.sc_theory.proofs.WordLaws.{inverse_word-cons}
-use Rattle.sc_random.specs.Drawn.{drawn_letters, letters_behind, taken, word_behind, drawn_word, commutator, drawn_commutator, draws_of}
+use Rattle.sc_random.specs.Drawn.{drawn_letters, letters_behind, taken, word_behind, drawn_word, commutator, drawn_commutator}
 
 append_assoc : {A : Type 0} (xs ys zs : List A) → (xs ++ ys) ++ zs ≡ xs ++ (ys ++ zs)
 append_assoc [] ys zs = refl
@@ -84,21 +84,6 @@ word_drawn before (draw ∷ draws) =
 pub length-word_behind : (before : Option Letter) (draws : List ℕ) → length (word_behind before draws) ≡ length draws
 length-word_behind before [] = refl
 length-word_behind before (draw ∷ draws) = ap suc (length-word_behind (Some (taken (letters_behind before) draw)) draws)
-
--- one more letter
-pub word_next : (before : Option Letter) (draws : List ℕ) (i : ℕ) (word : Word) (letter : Letter) (all : Word) → i < length draws
-    → word ++ word_behind before (drop i draws) ≡ all → letter ≡ taken (letters_behind before) (get_or draws i 0) → (word ++ letter ∷ []) ++ word_behind (Some letter) (drop (i + 1) draws) ≡ all
-word_next before draws i word letter all l h e =
-    rw (add-one i)
-    (append_assoc word (letter ∷ []) (word_behind (Some letter) (drop (suc i) draws))
-    ∙ ap (λ (x : Letter). word ++ x ∷ word_behind (Some x) (drop (suc i) draws)) e
-    ∙ ap (λ (ds : List ℕ). word ++ word_behind before ds) (sym (drop_next draws i l))
-    ∙ h)
-  where
-    drop_next : (xs : List ℕ) (k : ℕ) → k < length xs → drop k xs ≡ get_or xs k 0 ∷ drop (suc k) xs
-    drop_next [] k l = absurd (omega (arith, l))
-    drop_next (x ∷ xs) zero l = refl
-    drop_next (x ∷ xs) (suc k) l = drop_next xs k (omega (arith, l))
 
 -- ---- commutators
 

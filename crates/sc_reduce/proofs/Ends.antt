@@ -1,5 +1,5 @@
 -- A word between its two ends, as the code takes them off.
-use Rattle.std.proofs.Common.{◌≡◌, ℕ, suc, ◌+◌, ◌-◌, ◌<◌, ◌≤◌, true, false, [], ◌∷◌, ◌++◌, length, get_or, take, drop, refl, sym, ap, ◌∙◌, arith}
+use Rattle.std.proofs.Common.{◌≡◌, ℕ, suc, ◌+◌, ◌-◌, ◌≤◌, true, false, [], ◌∷◌, ◌++◌, length, get_or, take, drop, refl, sym, ap, ◌∙◌, arith}
 use Rattle.std.proofs.lemmas.List.{take_more, take_all, length-take, length-drop}
 use Rattle.sc_theory.specs.declared.Letter.{Letter}
 use Rattle.sc_theory.specs.Words.{Word, is_inverse, delete_leftmost, cyclic_reduction}
@@ -55,8 +55,3 @@ cyclic_reduction-stops (x ∷ y ∷ w) l f h =
     (delete_cyclically_none (x ∷ y ∷ w) f
     (none_from_ends x y w
     (ap (is_inverse x) (last_letter-at y w) ∙ ap (λ (k : ℕ). is_inverse x (get_or (x ∷ y ∷ w) k no_letter)) (sym n) ∙ h)))
-
-pub cyclic_reduction-short : (s : Word) → length s < 2 → cyclic_reduction s ≡ s
-cyclic_reduction-short [] l = refl
-cyclic_reduction-short (x ∷ []) l = refl
-cyclic_reduction-short (x ∷ y ∷ w) l = absurd (omega arith)

@@ -1,5 +1,5 @@
 -- Letters, their inverses, and the totals of words.
-use Rattle.std.proofs.Common.{◌≡◌, ℕ, Bool, true, false, not, ◌&&◌, cond, eqb, ◌==◌, [], ◌∷◌, ◌++◌, map, reverse, refl, sym, ap, ◌∙◌, arith, subst, ℤ, pos, neg_ℤ, ◌+ℤ◌}
+use Rattle.std.proofs.Common.{◌≡◌, ℕ, Bool, true, false, not, ◌&&◌, cond, eqb, ◌==◌, [], ◌∷◌, ◌++◌, map, reverse, refl, sym, ap, ◌∙◌, arith, ℤ, pos, neg_ℤ, ◌+ℤ◌}
 use Rattle.std.proofs.lemmas.Bool.{eqb-true, eq-eqb, and_parts, and_from}
 use Rattle.std.proofs.lemmas.Int.{ints}
 use Rattle.std.proofs.lemmas.List.{map-append, reverse-append}
@@ -42,10 +42,6 @@ letter_from_is_inverse x y h =
 pub is_inverse-inverse_letter : (x : Letter) → is_inverse x (inverse_letter x) ≡ true
 is_inverse-inverse_letter x =
     and_from (eqb x.number x.number) (not (same_sign x.inverse (not x.inverse))) (eq-eqb x.number x.number refl) (is_other_sign x.inverse)
-
-pub is_inverse-from_inverse_letter : (x : Letter) → is_inverse (inverse_letter x) x ≡ true
-is_inverse-from_inverse_letter x =
-    subst (λ (y : Letter). is_inverse (inverse_letter x) y ≡ true) (inverse_letter-inverse_letter x) (is_inverse-inverse_letter (inverse_letter x))
 
 pub is_inverse_comm : (x y : Letter) → is_inverse x y ≡ is_inverse y x
 is_inverse_comm x y = grind (arith, letter_from_is_inverse, is_inverse-inverse_letter, inverse_letter-inverse_letter)
