@@ -6,6 +6,7 @@ use Rattle.std.proofs.KnownBytes.{Consumes-trans}
 use Rattle.std.specs.Io.KnownBytes.{Consumes}
 use Rattle.sc_outside.specs.Told.{Delivered, Took, TookPart}
 
+-- what two calls took one after the other, they took together
 pub Took-trans : (a b c : Option (List ℕ)) (bs cs : List ℕ) → Took a b bs → Took b c cs → Took a c (bs ++ cs)
 Took-trans a b None bs cs p q = tt
 Took-trans a None (Some z) bs cs p q = absurd q
@@ -24,6 +25,7 @@ slice_from i text = take_all _ _ (omega (arith, length-drop i text))
 pub Took-next : (a b c : Option (List ℕ)) (text : List ℕ) (i k : ℕ) → Took a b (take i text) → Took b c (take k (take (length text - i) (drop i text))) → Took a c (take (i + k) text)
 Took-next a b c text i k p q = Took-more a b c text i k p (subst (λ l. Took b c (take k l)) (slice_from i text) q)
 
+-- what is taken of the slice from place i on ends within the text
 pub within_next : (text : List ℕ) (i k : ℕ) → i ≤ length text → k ≤ length (take (length text - i) (drop i text)) → i + k ≤ length text
 within_next text i k p q = omega (arith, length-drop i text, ap length (slice_from i text))
 

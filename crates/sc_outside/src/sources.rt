@@ -123,5 +123,6 @@ pub fn read_all<S: Source>(alloc: Global, source: &mut S, limit: usize) -> Resul
         }
         bytes.extend_from_slice(&room[..count])?;
     }
+    // Each turn that goes on brings a byte within the limit, so limit + 1 turns never all go on.
     unreachable!()
 }

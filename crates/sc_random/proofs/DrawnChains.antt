@@ -41,6 +41,7 @@ balanced seed k g =
 pub length-draws : (seed n : ℕ) → length (draws_of seed n) ≡ n
 length-draws seed n = length-first_words n (pcg32_of_seed (pcg32_seed 16 seed))
 
+-- two commutators of two words of k letters each
 pub letters : (seed k : ℕ) → letters_of (drawn_lines seed k) ≡ 8 * k
 letters seed k =
     let draws : List ℕ = draws_of seed (4 * k) in
@@ -59,6 +60,7 @@ letters seed k =
       two,
     )
 
+-- their reduction leaves no more positions
 pub few_positions : (seed k : ℕ) → positions (drawn_chain seed k) ≤ 8 * k
 few_positions seed k = omega (arith, positions_of_chain (drawn_lines seed k), letters seed k)
 
@@ -67,11 +69,13 @@ one_word zero w = omega arith
 one_word (suc n) [] = omega arith
 one_word (suc n) (x ∷ w) = omega arith
 
+-- a line gives at most one word
 pub words_of_lines : (lines : List RawLine) → length (chain_of lines) ≤ length lines
 words_of_lines [] = omega arith
 words_of_lines (l ∷ lines) =
     omega (arith, words_of_lines lines, length-append (line_chain l) (chain_of lines), one_word (unsigned_abs l.coefficient) (signed_word l.coefficient (cyclic_reduction l.word)))
 
+-- words of at most 8 letters keep the chain within the limits
 pub within : (seed k : ℕ) → k ≤ 8 → IsWithin (drawn_chain seed k)
 within seed k l = record {
   few_words = omega (arith, words_of_lines (drawn_lines seed k));
@@ -90,6 +94,7 @@ raw number k draws = record {
       omega (arith, two);
 }
 
+-- the lines are such as stand in a chain text
 pub raw_lines : (seed k : ℕ) → All IsRawLine (drawn_lines seed k)
 raw_lines seed k =
     let first : RawLine = record { line = 1; coefficient = pos 1; word = drawn_commutator k (take (2 * k) (draws_of seed (4 * k))) } in

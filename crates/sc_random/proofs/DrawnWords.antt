@@ -30,6 +30,7 @@ drawn_next g g' draws word count n all l before step =
     ∙ ap (λ (k : ℕ). draws ++ first_words pcg32 k g) (sym split)
     ∙ before
 
+-- where no draw is left to make, all are made
 pub drawn_last : (g : Lcg) (draws : List ℕ) (count n : ℕ) (all : List ℕ) → count ≤ n → draws ++ first_words pcg32 (count - n) g ≡ all → draws ≡ all
 unfolding first_words
 drawn_last g draws count n all l before =
@@ -47,6 +48,7 @@ length-first_words (suc n) g = ap suc (length-first_words n (pcg32 g).1)
 
 -- ---- letters
 
+-- a letter of the generators a and b
 abbrev pub IsDrawn : Letter → Type 0
 IsDrawn x = x.number < 2
 
@@ -75,12 +77,14 @@ got [] k h = omega arith
 got (x ∷ xs) zero h = All-head IsDrawn x xs h
 got (x ∷ xs) (suc k) h = got xs k (All-tail IsDrawn x xs h)
 
+-- the letters of a drawn word are a, b and their inverses
 pub word_drawn : (before : Option Letter) (draws : List ℕ) → All IsDrawn (word_behind before draws)
 word_drawn before [] = All-nil IsDrawn
 word_drawn before (draw ∷ draws) =
     let x : Letter = taken (letters_behind before) draw in
     All-cons IsDrawn x (word_behind (Some x) draws) (got (letters_behind before) (draw % length (letters_behind before)) (behind_drawn before)) (word_drawn (Some x) draws)
 
+-- a drawn word has a letter for each draw
 pub length-word_behind : (before : Option Letter) (draws : List ℕ) → length (word_behind before draws) ≡ length draws
 length-word_behind before [] = refl
 length-word_behind before (draw ∷ draws) = ap suc (length-word_behind (Some (taken (letters_behind before) draw)) draws)
@@ -97,15 +101,18 @@ inverse_drawn (x ∷ w) h =
 pub length-inverse_word : (w : Word) → length (inverse_word w) ≡ length w
 length-inverse_word w = length-map (reverse w) inverse_letter ∙ length-reverse w
 
+-- a commutator has no letters but those of its words and their inverses
 pub commutator_drawn : (u v : Word) → All IsDrawn u → All IsDrawn v → All IsDrawn (commutator u v)
 commutator_drawn u v hu hv =
     All-append IsDrawn u (v ++ (inverse_word u ++ inverse_word v)) hu
     (All-append IsDrawn v (inverse_word u ++ inverse_word v) hv (All-append IsDrawn (inverse_word u) (inverse_word v) (inverse_drawn u hu) (inverse_drawn v hv)))
 
+-- it has the letters of each of its words twice
 pub length-commutator : (u v : Word) → length (commutator u v) ≡ 2 * (length u + length v)
 length-commutator u v =
     omega (arith, length-append u (v ++ (inverse_word u ++ inverse_word v)), length-append v (inverse_word u ++ inverse_word v), length-append (inverse_word u) (inverse_word v), length-inverse_word u, length-inverse_word v)
 
+-- so a drawn commutator has two letters for each draw
 pub length-drawn_commutator : (k : ℕ) (draws : List ℕ) → k ≤ length draws → length (drawn_commutator k draws) ≡ 2 * length draws
 length-drawn_commutator k draws l =
     omega (arith, length-commutator (drawn_word (take k draws)) (drawn_word (drop k draws)), length-word_behind None (take k draws), length-word_behind None (drop k draws), length-take-le k draws l, length-drop k draws)

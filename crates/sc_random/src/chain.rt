@@ -55,6 +55,7 @@ pub fn drawn_chain(alloc: Global, seed: u64, letters: u32) -> Result<Chain, Allo
         Ok(chain) => Ok(chain),
         Err(fault) => match fault {
             ChainFault::Memory => Err(AllocError),
+            // Two short commutators pass no limit.
             _ => unreachable!(),
         },
     }

@@ -14,12 +14,14 @@ use Rattle.sc_reduce.proofs.Stack.{IsFree-front}
 abbrev pub middle : Word → Word
 middle s = take (length s - 1 - 1) (drop 1 s)
 
+-- its first letter, and its last
 abbrev pub first_of : Word → Letter
 first_of s = get_or s 0 no_letter
 
 abbrev pub last_of : Word → Letter
 last_of s = get_or s (length s - 1) no_letter
 
+-- a word of two or more letters is its first letter, its middle and its last letter
 pub split_ends : (s : Word) → 2 ≤ length s → s ≡ first_of s ∷ (middle s ++ last_of s ∷ [])
 split_ends [] l = absurd (omega arith)
 split_ends (x ∷ []) l = absurd (omega arith)
@@ -31,12 +33,14 @@ split_ends (x ∷ y ∷ w) l =
     ∙ ap (λ (k : ℕ). x ∷ (take k (y ∷ w) ++ get_or (y ∷ w) (length w) no_letter ∷ [])) (sym m)
     ∙ ap (λ (k : ℕ). x ∷ (middle (x ∷ y ∷ w) ++ get_or (x ∷ y ∷ w) k no_letter ∷ [])) (sym n)
 
+-- where a word allows no free deletion, neither does its middle
 pub IsFree-middle : (s : Word) → 2 ≤ length s → IsFree s → IsFree (middle s)
 IsFree-middle s l f =
     let split = split_ends s l in
     IsFree-front (middle s) (last_of s ∷ [])
     (delete_leftmost_tail (first_of s) (middle s ++ last_of s ∷ []) (ap delete_leftmost (sym split) ∙ f))
 
+-- where the ends are inverse, the middle has the same cyclic reduction
 pub cyclic_reduction-middle : (s : Word) → 2 ≤ length s → IsFree s → is_inverse (first_of s) (last_of s) ≡ true → cyclic_reduction (middle s) ≡ cyclic_reduction s
 cyclic_reduction-middle s l f h =
     let split = split_ends s l in

@@ -51,11 +51,13 @@ good_line l =
       reduced = subst IsReduced e (IsReduced-signed_word l.coefficient (cyclic_reduction l.word) (IsReduced-cyclic_reduction l.word));
     })
 
+-- no word of the chain of lines is empty, and each is reduced
 pub good_chain : (lines : List RawLine) → AreGoodBelow (chain_of lines) (length (chain_of lines))
 good_chain lines w l = All-chain_of IsGoodEntry (λ l. Unit {0}) (λ l h. good_line l) lines (λ k d h. tt) w no_word l
 
 -- ---- the letters' numbers
 
+-- a letter whose number is that of a generator
 abbrev pub IsGenerator : Letter → Type 0
 IsGenerator x = x.number < GENERATORS
 
@@ -109,6 +111,7 @@ generators_of_line l h =
     All-weighted_word HasGenerators (unsigned_abs l.coefficient) w
     (λ x v e. subst (All IsGenerator) e (generators_of_signed l.coefficient (cyclic_reduction l.word) (All-cyclic_reduction IsGenerator l.word (All-from_get_or IsGenerator l.word no_letter h.generators))))
 
+-- where the letters of the lines are those of generators, so are the letters of their chain
 pub generators_of_chain : (lines : List RawLine) → All IsRawLine lines → AreGenerators (chain_of lines)
 generators_of_chain lines h w k in_chain in_word = All-chain_of HasGenerators IsRawLine generators_of_line lines h w no_word in_chain k no_letter in_word
 
@@ -132,6 +135,7 @@ positions_of_line l =
     let r = cyclic_reduction l.word in
     omega (arith, positions-weighted_word (unsigned_abs l.coefficient) (signed_word l.coefficient r), length-signed_word l.coefficient r, length-cyclic_reduction l.word)
 
+-- the chain of lines has no more positions than the lines have letters
 pub positions_of_chain : (lines : List RawLine) → positions (chain_of lines) ≤ letters_of lines
 positions_of_chain [] = omega arith
 positions_of_chain (l ∷ lines) =
@@ -139,6 +143,7 @@ positions_of_chain (l ∷ lines) =
 
 -- ---- the weights
 
+-- a word whose weight is at most 1000
 abbrev pub IsLight : ℕ × Word → Type 0
 IsLight e = e.0 ≤ 1000
 
@@ -158,6 +163,7 @@ light_words (e ∷ c) h =
     scaled : (a b : ℕ) → a ≤ 1000 → a * b ≤ 1000 * b
     scaled a b l = grind arith
 
+-- a coefficient is at most 1000 in size, so the weighted length is at most 1000 times the number of positions
 pub light_chain : (lines : List RawLine) → All IsRawLine lines → weighted_length (chain_of lines) ≤ 1000 * positions (chain_of lines)
 light_chain lines h = light_words (chain_of lines) (All-chain_of IsLight IsRawLine light_line lines h)
 
@@ -188,6 +194,7 @@ chain_total-line_chain g l =
     ∙ total-signed_word g l.coefficient r
     ∙ ap (λ (t : ℤ). l.coefficient *ℤ t) (total-cyclic_reduction g l.word)
 
+-- the totals of the chain of lines are those of the lines as written
 pub chain_total-chain_of : (g : ℕ) (lines : List RawLine) → chain_total g (chain_of lines) ≡ lines_total g lines
 chain_total-chain_of g [] = refl
 chain_total-chain_of g (l ∷ lines) =
@@ -206,6 +213,7 @@ excess_from_fault lines h (ManyPositions n) f = record { few_words = f.few_words
 excess_from_fault lines h (Heavy n) f = absurd (omega (arith, light_chain lines h, f.few_positions, f.heavy))
 excess_from_fault lines h Memory f = absurd f
 
+-- so where a chain is refused for one of its faults, it passes a limit, or memory is wanting
 pub excess_of_result : (lines : List RawLine) → All IsRawLine lines → (r : Result Chain ChainFault) → ((e : ChainFault) → e ≢ Memory → IsErrOf r e → IsFaultOf (chain_of lines) e) → IfErr r (IsExcess (chain_of lines))
 excess_of_result lines h (Ok c) f = tt
 excess_of_result lines h (Err (EmptyWord w)) f = excess_from_fault lines h (EmptyWord w) (f (EmptyWord w) (λ q. cc) refl)

@@ -47,6 +47,7 @@ generator_of_letter b x h = elim (cases_Bool (is_small b)) [
   ]
 ]
 
+-- the letters that bytes spell are those of generators
 pub generators_of_text : (bs : List ℕ) → All IsGenerator (filter_map letter_of bs)
 generators_of_text [] = All-nil IsGenerator
 generators_of_text (b ∷ bs) = elim (cases_option (letter_of b)) [
@@ -62,12 +63,14 @@ within_size : (z : ℤ) → unsigned_abs z ≤ MAX_COEFFICIENT → (neg_ℤ (pos
 within_size (pos n) h = (omega (arith, ints), omega (arith, ints))
 within_size (negsuc n) h = (omega (arith, ints), omega (arith, ints))
 
+-- one line more, with its coefficient and its letters in range
 pub ranges_more : (ls ls' : List RawLine) (l : RawLine) → ls' ≡ ls ++ l ∷ [] → All IsRawLine ls → unsigned_abs l.coefficient ≤ MAX_COEFFICIENT → All IsGenerator l.word → All IsRawLine ls'
 ranges_more ls ls' l e all size word =
     let bounds = within_size l.coefficient size in
     subst (All IsRawLine) (sym e)
     (All-push IsRawLine ls l all (record { low = bounds.0; high = bounds.1; generators = λ k h. word k no_letter h }))
 
+-- one line more adds the letters of its word
 pub letters_more : (ls ls' : List RawLine) (l : RawLine) (m n : ℕ) → ls' ≡ ls ++ l ∷ [] → m ≡ letters_of ls → n ≡ length l.word → m + n ≡ letters_of ls'
 letters_more ls ls' l m n e so_far one =
     omega (arith, so_far, one, ap letters_of e, sum_by_push (λ (r : RawLine). length r.word) ls l)

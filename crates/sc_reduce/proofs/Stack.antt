@@ -53,6 +53,7 @@ free_reduction-append u v =
 
 -- ---- the last letter as the code reads it
 
+-- a word with a last letter is what stands before it, and that letter
 pub last_split : (s : Word) (y : Letter) → slice_get s (length s - 1) ≡ Some y → s ≡ take (length s - 1) s ++ y ∷ []
 last_split [] y h = absurd (none-some y h)
 last_split (x ∷ []) y h = ap (λ (z : Letter). z ∷ []) (same_Some x y h)
@@ -60,6 +61,7 @@ last_split (x ∷ z ∷ s) y h =
     let e : length (x ∷ z ∷ s) - 1 ≡ suc (length (z ∷ s) - 1) = omega arith in
     rw e (ap (λ (u : Word). x ∷ u) (last_split (z ∷ s) y (rw e at h)))
 
+-- a word without a last letter is empty
 pub empty_from_no_last : (s : Word) → slice_get s (length s - 1) ≡ None → s ≡ []
 empty_from_no_last [] h = refl
 empty_from_no_last (x ∷ []) h = absurd (none-some x (sym h))
@@ -68,12 +70,14 @@ empty_from_no_last (x ∷ z ∷ s) h =
     let none_left : z ∷ s ≡ [] = empty_from_no_last (z ∷ s) (rw e at h) in
     cc
 
+-- a letter more: where it is the inverse of the topmost one, that goes
 pub stack_goes : (s s' : Word) (y x : Letter) → IsFree s → slice_get s (length s - 1) ≡ Some y → is_inverse y x ≡ true → s' ≡ take (length s - 1) s → s' ≡ free_reduction (s ++ x ∷ [])
 stack_goes s s' y x f top h e =
     let t = take (length s - 1) s in
     let split : s ≡ t ++ y ∷ [] = last_split s y top in
     e ∙ sym (free_reduction_goes t y x (ap delete_leftmost (sym split) ∙ f) h) ∙ ap (λ (u : Word). free_reduction (u ++ x ∷ [])) (sym split)
 
+-- where it is not, or where there is no topmost one, it stays
 pub stack_stays : (s : Word) (y x : Letter) → IsFree s → slice_get s (length s - 1) ≡ Some y → is_inverse y x ≡ false → s ++ x ∷ [] ≡ free_reduction (s ++ x ∷ [])
 stack_stays s y x f top h =
     let t = take (length s - 1) s in

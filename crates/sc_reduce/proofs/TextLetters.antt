@@ -112,5 +112,6 @@ letters_of_raw_lines n [] = omega arith
 letters_of_raw_lines n (l ∷ ls) =
     omega (arith, sum_by-append (λ (r : RawLine). length r.word) (raw_line n (line_case l)) (raw_lines (suc n) ls), letters_of_raw_line n (line_case l), letters_of_case l, letters_of_raw_lines (suc n) ls, sizes-cons l ls)
 
+-- the words of a chain text have no more letters than the text has bytes
 pub letters_of_text : (text : List ℕ) (read : List RawLine) → IsChainText text read → letters_of read ≤ length text
 letters_of_text text read h = omega (arith, ap letters_of h.entries, letters_of_raw_lines 1 (text_lines text), sizes-text_lines text)

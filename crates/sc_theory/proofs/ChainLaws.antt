@@ -7,18 +7,21 @@ use Rattle.std.proofs.lemmas.Bool.{cases_lt, lt-ltb, le-ltb, eq-eqb, ne_eqb, con
 use Rattle.sc_theory.specs.Words.{Word}
 use Rattle.sc_theory.specs.Chains.{Chain, no_letter, word, positions, first, word_of, letter, succ, prev}
 
+-- a word more in front moves the first positions on by its length, and makes so many positions more
 pub first-cons : (u : ℕ × Word) (c : Chain) (w : ℕ) → first (u ∷ c) (suc w) ≡ length u.1 + first c w
 first-cons u c w = sum_by-cons (λ (v : ℕ × Word). length v.1) u (take w c)
 
 pub positions-cons : (u : ℕ × Word) (c : Chain) → positions (u ∷ c) ≡ length u.1 + positions c
 positions-cons u c = sum_by-cons (λ (v : ℕ × Word). length v.1) u c
 
+-- the word after the word number w begins where that one ends
 pub first-suc : (c : Chain) (w : ℕ) → first c (suc w) ≡ first c w + length (word c w)
 first-suc [] zero = refl
 first-suc [] (suc w) = refl
 first-suc (u ∷ c) zero = omega (arith, first-cons u c 0)
 first-suc (u ∷ c) (suc w) = omega (arith, first-cons u c w, first-cons u c (suc w), first-suc c w)
 
+-- behind the last word stands the number of positions
 pub first_all : (c : Chain) → first c (length c) ≡ positions c
 first_all [] = refl
 first_all (u ∷ c) = omega (arith, first-cons u c (length c), positions-cons u c, first_all c)
@@ -45,6 +48,7 @@ pub record Place (c : Chain) (i : ℕ) : Type 0 where
   pub from : first c (word_of c i) ≤ i
   pub below : i < first c (suc (word_of c i))
 
+-- each position lies in a word of the chain, at its first position or behind it, and before the next word
 pub place : (c : Chain) (i : ℕ) → i < positions c → Place c i
 place [] i inside = absurd (omega arith)
 place (u ∷ c) i inside =
@@ -70,6 +74,7 @@ pub record At (c : Chain) (i : ℕ) : Type 0 where
   pub in_word : k < length (word c w)
   pub here : i ≡ first c w + k
 
+-- each position is a place of some word
 pub at : (c : Chain) (i : ℕ) → i < positions c → At c i
 at c i inside =
     let p = place c i inside in
@@ -81,11 +86,13 @@ at c i inside =
       here = omega (arith, p.from);
     }
 
+-- each place of a word is a position of the chain
 pub place_inside : (c : Chain) (w k : ℕ) → k < length (word c w) → first c w + k < positions c
 place_inside [] w k inside = absurd (omega arith)
 place_inside (u ∷ c) zero k inside = omega (arith, positions-cons u c)
 place_inside (u ∷ c) (suc w) k inside = omega (arith, positions-cons u c, first-cons u c w, place_inside c w k inside)
 
+-- the letter at a position is that at its place of the word
 pub letter_place : (c : Chain) (w k : ℕ) → k < length (word c w) → letter c (first c w + k) ≡ get_or (word c w) k no_letter
 letter_place [] w k inside = absurd (omega arith)
 letter_place (u ∷ c) zero k inside =
@@ -99,6 +106,7 @@ letter_place (u ∷ c) (suc w) k inside =
 succ_in : (c : Chain) (w i : ℕ) → word_of c i ≡ w → succ c i ≡ (cond (eqb (suc i) (first c (suc w))) (first c w) (suc i))
 succ_in c w i e = ap (λ (v : ℕ). cond (eqb (suc i) (first c (suc v))) (first c v) (suc i)) e
 
+-- the next position is that of the next place, and behind the last place that of the first
 pub succ_within : (c : Chain) (w k : ℕ) → suc k < length (word c w) → succ c (first c w + k) ≡ first c w + suc k
 succ_within c w k inside =
     let i : ℕ = first c w + k in
@@ -114,6 +122,7 @@ succ_last c w k last =
 prev_in : (c : Chain) (w i : ℕ) → word_of c i ≡ w → prev c i ≡ (cond (eqb i (first c w)) (pred (first c (suc w))) (pred i))
 prev_in c w i e = ap (λ (v : ℕ). cond (eqb i (first c v)) (pred (first c (suc v))) (pred i)) e
 
+-- the previous position is that of the place before, and before the first place that of the last
 pub prev_within : (c : Chain) (w k : ℕ) → suc k < length (word c w) → prev c (first c w + suc k) ≡ first c w + k
 prev_within c w k inside =
     let i : ℕ = first c w + suc k in
@@ -165,6 +174,7 @@ neighbours_at c w k inside =
       succ-prev = ap (succ c) before.2 ∙ before.3;
     }
 
+-- the next and the previous position lie in the same word, and each undoes the other
 pub neighbours : (c : Chain) (i : ℕ) → i < positions c → Neighbours c i
 neighbours c i inside = let a = at c i inside in subst (Neighbours c) (sym a.here) (neighbours_at c a.w a.k a.in_word)
 

@@ -35,6 +35,7 @@ abbrev pub step_column : Chain → ℕ → ℕ → ℕ → ℤ
 step_column c k i j =
     if ltb k (length (pairs c)) then pair_part c (pair_at c k).0 (pair_at c k).1 i j else ends_at (λ b. eqb b (first c (word_at c k))) i j
 
+-- an entry of a closed walk's column is the sum of what each step adds to the row
 pub column_is : (c : Chain) (walk : List ℕ) (k : ℕ) → column c walk k ≡ walk_total (step_column c k) walk
 column_is c walk k =
     let p : ℕ = (pair_at c k).0 in
@@ -274,6 +275,7 @@ step_climbs c i j step =
     ∙ joined (pos (place_in_word c (succ c i))) (pos (place_in_word c j)) (pos (offset c j))
     ∙ ap (λ (m : ℕ). pos m -ℤ pos (offset c j)) (place_of_next c i step.from)
 
+-- the product of the length row with a closed walk's column is the walk's number of steps
 pub length_product : (c : Chain) (walk : List ℕ) → IsClosedWalk c walk → sum_below (λ k. length_row c k *ℤ column c walk k) (rows c) ≡ pos (length walk)
 length_product c walk closed =
     sum-congr _ _ (rows c) (λ k _. ap (λ (x : ℤ). length_row c k *ℤ x) (column_is c walk k) ∙ sym (walk_total-mul (length_row c k) (step_column c k) walk))

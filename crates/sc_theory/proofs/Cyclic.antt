@@ -43,6 +43,7 @@ delete_cyclically_leftmost w v h = ap (λ (o : Option Word). option_or o (delete
 delete_cyclically_ends : (w v : Word) → delete_leftmost w ≡ None → delete_ends w ≡ Some v → delete_cyclically w ≡ Some v
 delete_cyclically_ends w v f h = ap (λ (o : Option Word). option_or o (delete_ends w)) f ∙ h
 
+-- the cyclic reduction may begin with the free reduction
 pub cyclic_reduction-free_reduction : (w : Word) → cyclic_reduction (free_reduction w) ≡ cyclic_reduction w
 cyclic_reduction-free_reduction w =
     deleted_keeps delete_leftmost cyclic_reduction (λ a b h. cyclic_reduction-delete_cyclically a b (delete_cyclically_leftmost a b h)) (length w) w
@@ -64,13 +65,14 @@ delete_ends-around x y (z ∷ v) h =
     cond-true (is_inverse x (last_letter z (v ++ y ∷ []))) (Some (all_but_last z (v ++ y ∷ []))) None (ap (is_inverse x) (last_letter-push z v y) ∙ h)
     ∙ ap (λ (u : Word). Some u) (all_but_last-push z v y)
 
--- in a word that allows no free deletion
+-- in a word that allows no free deletion, inverse letters at the ends may go before the cyclic reduction
 pub cyclic_reduction-around : (x y : Letter) (v : Word) → IsFree (x ∷ (v ++ y ∷ [])) → is_inverse x y ≡ true → cyclic_reduction (x ∷ (v ++ y ∷ [])) ≡ cyclic_reduction v
 cyclic_reduction-around x y v f h =
     cyclic_reduction-delete_cyclically (x ∷ (v ++ y ∷ [])) v (delete_cyclically_ends (x ∷ (v ++ y ∷ [])) v f (delete_ends-around x y v h))
 
 -- ---- the inverse of a reduced word
 
+-- a free deletion in a word is one in the inverse word
 pub FreelyDeletes-inverse_word : (w v : Word) → FreelyDeletes w v → FreelyDeletes (inverse_word w) (inverse_word v)
 FreelyDeletes-inverse_word w v d =
     let x = d.letter in

@@ -14,6 +14,7 @@ abbrev pub all_below : (ℕ → Bool) → ℕ → Bool
 all_below test zero = true
 all_below test (suc n) = all_below test n && test n
 
+-- a test that holds of all numbers below n holds of each
 pub all_below_at : (test : ℕ → Bool) (n s : ℕ) → all_below test n ≡ true → s < n → test s ≡ true
 all_below_at test zero s all inside = absurd (omega arith)
 all_below_at test (suc n) s all inside =
@@ -23,6 +24,7 @@ all_below_at test (suc n) s all inside =
       | inr other ↦ all_below_at test n s parts.0 (omega arith)
     ]
 
+-- whether q holds or p fails
 abbrev pub implies : Bool → Bool → Bool
 implies false q = true
 implies true q = q
@@ -31,6 +33,7 @@ pub implies_at : (p q : Bool) → implies p q ≡ true → p ≡ true → q ≡ 
 implies_at false q h e = absurd (false≢true e)
 implies_at true q h e = h
 
+-- whether an entry is there and is 0
 abbrev pub is_zero : Option ℤ → Bool
 is_zero None = false
 is_zero (Some (pos zero)) = true
@@ -72,13 +75,16 @@ inverse_at n true = ap (λ (t : Bool). t && true) (eq-eqb n n refl)
 pub is_inverse_of : (x : Letter) → is_inverse x (inverse_letter x) ≡ true
 is_inverse_of x = inverse_at x.number x.inverse
 
+-- a step leads to a letter that is the inverse of the letter after its start
 pub inverse_of_step : (c : Chain) (i j : ℕ) → IsStep c i j → is_inverse (letter c (succ c i)) (letter c j) ≡ true
 inverse_of_step c i j step = ap (is_inverse (letter c (succ c i))) step.inverse ∙ is_inverse_of (letter c (succ c i))
 
+-- whether the entries of the row s allow to go from i to j, where that is a step
 abbrev pub step_test : Chain → Prices → Tables → ℕ → ℕ → ℕ → Bool
 step_test c list tables s i j =
     implies (is_inverse (letter c (succ c i)) (letter c j)) (may_step list.scale (price c list i j) (eqb j s) (entry tables s i) (entry tables s j))
 
+-- whether each row has 0 at its own position and allows all steps
 abbrev pub vouch_test : Chain → Prices → Tables → Bool
 vouch_test c list tables =
     all_below (λ s. is_zero (entry tables s s) && all_below (λ i. all_below (step_test c list tables s i) (positions c)) (positions c)) (positions c)
@@ -93,6 +99,7 @@ module _ (c : Chain) (list : Prices) (tables : Tables) (test : vouch_test c list
       let at_j = all_below_at (step_test c list tables s i) (positions c) j at_i step.to in
       implies_at _ _ at_j (inverse_of_step c i j step)
 
+  -- tables that pass the test vouch for the list
   pub vouches : Vouch c list tables
   vouches = record {
     starts = λ s inside. is_zero_at (entry tables s s) (row s inside).0;

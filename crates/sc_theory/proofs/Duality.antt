@@ -94,7 +94,7 @@ module _ (c : Chain) (list : Prices) (n : ℕ) (g : Sides) (is : IsFatgraph c n 
       orbit_bound (turn g) (length g) (price_at (price c list) g) list.scale (turn_permutes c n g is)
       (λ s k inside back. subst (λ (x : ℤ). list.scale ≤ℤ x) (orbit_total (price c list) g s k back) (covers (labels_from g (suc k) s) (orbit_walks c n g is s k inside back)))
 
-  -- with the counts of the words
+  -- the scale for each vertex is paid for by the base price of each word, as often as sides are at its first position
   pub duality_by_counts : IsChain c → Covers c list → (list.scale *ℤ pos (vertices g)) ≤ℤ sum_below (λ w. pos (sides_at g (first c w)) *ℤ get_or list.base w (pos 0)) (length c)
   duality_by_counts chain covers =
       subst (λ (x : ℤ). (list.scale *ℤ pos (vertices g)) ≤ℤ x)
@@ -103,7 +103,7 @@ module _ (c : Chain) (list : Prices) (n : ℕ) (g : Sides) (is : IsFatgraph c n 
       ∙ sum-congr _ _ (length c) (λ w inside. ap (λ (x : ℤ). pos (sides_at g (first c w)) *ℤ x) (base_of_word c list w (nonempty (word c w) (chain.words w inside)))))
       (vertices_paid covers)
 
-  -- with the copies and the weights
+  -- so it is paid for by the bound for each copy
   pub duality : IsChain c → Covers c list → (list.scale *ℤ pos (vertices g)) ≤ℤ (pos n *ℤ bound c list)
   duality chain covers =
       subst (λ (x : ℤ). (list.scale *ℤ pos (vertices g)) ≤ℤ x)

@@ -21,10 +21,12 @@ same_next c i j from to =
           ne_eqb (succ c i) (succ c j) apart ∙ sym (ne_eqb i j other)
     ]
 
+-- a sum of m ones is m
 pub ones : (m : ℕ) → sum_below (λ _. pos 1) m ≡ pos m
 ones m = sum-const (pos 1) m ∙ mul-one (pos m)
 
 module _ (c : Chain) (n : ℕ) (g : Sides) (is : IsFatgraph c n g) where
+  -- to take the next side, the mate, or to turn permutes the sides
   pub next_permutes : IsPermutation (next g) (length g)
   next_permutes = record { into = is.nexts; apart = is.apart }
 
@@ -46,6 +48,7 @@ module _ (c : Chain) (n : ℕ) (g : Sides) (is : IsFatgraph c n g) where
   sides_like_first w (suc k) inside =
       ap (sides_at g) (sym (succ_within c w k inside)) ∙ sides_next (first c w + k) (place_inside c w k (omega arith)) ∙ sides_like_first w k (omega arith)
 
+  -- each place of a word is the label of as many sides as the copies run along the word
   pub sides_of_place : (w k : ℕ) → k < length (word c w) → sides_at g (first c w + k) ≡ quota c n w
   sides_of_place w k inside = sides_like_first w k inside ∙ is.counts w (word_inside c w k inside)
 
@@ -69,6 +72,7 @@ module _ (c : Chain) (n : ℕ) (g : Sides) (is : IsFatgraph c n g) where
       ∙ mul_assoc (pos n) (pos (weight c w)) (inner w))
       ∙ sum-mul_left (pos n) (λ w. pos (weight c w) *ℤ inner w) (length c)
 
+  -- the sides are as many as the copies times the weighted length
   pub length_is : length g ≡ n * weighted_length c
   length_is =
       same-pos (length g) (n * weighted_length c)
@@ -77,6 +81,7 @@ module _ (c : Chain) (n : ℕ) (g : Sides) (is : IsFatgraph c n g) where
       ∙ ap (λ (a : ℤ). pos n *ℤ a) (sum-congr _ _ (length c) (λ w _. ap (λ (a : ℤ). pos (weight c w) *ℤ a) (ones (length (word c w)))) ∙ weighted_length_sum c)
       ∙ sym (pos-mul n (weighted_length c)))
 
+  -- a chain with a labelled fatgraph over it is balanced
   pub balanced : IsBalanced c
   balanced x =
       let f : ℕ → ℤ = λ i. sign x (letter c i) in
@@ -91,6 +96,7 @@ module _ (c : Chain) (n : ℕ) (g : Sides) (is : IsFatgraph c n g) where
       (λ s inside. ap (sign x) (is.inverse s inside) ∙ sign_inverse x (letter c (label g s))) in
       cancel n (chain_total x c) (pos 0) is.copies (sym by_words ∙ by_mates ∙ sym (mul-zero (pos n)))
 
+  -- each position is the label of as many sides as the copies run along its word
   pub sides_of_position : (i : ℕ) → i < positions c → sides_at g i ≡ quota c n (word_of c i)
   sides_of_position i inside =
       let a = at c i inside in

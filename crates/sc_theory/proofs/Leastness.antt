@@ -43,6 +43,7 @@ costs_by_copies e e' v v' n n' same more =
     let s = pos-mul v' n in
     rw (left, right, ← p, ← q, ← r, ← s) (omega (arith, ints))
 
+-- a labelled fatgraph is least over its chain where a list that covers the chain is tight for it
 pub least : (c : Chain) (list : Prices) (n : ℕ) (g : Sides) → IsChain c → pos 0 <ℤ list.scale → Covers c list → IsFatgraph c n g → IsTight c list n g → IsLeast c n g
 least c list n g chain above covers is tight n' g' is' =
     let here : n * weighted_length c ≡ 2 * edges g = sym (length_is c n g is) ∙ even_sides c n g is in

@@ -5,10 +5,12 @@ use Rattle.std.proofs.lemmas.Int.{ints}
 use Rattle.sc_algebra.specs.Sums.{sum_below}
 use Rattle.sc_algebra.proofs.Sums.{sum-congr, sum_first}
 
+-- the sum of a function over the elements of a list
 abbrev pub list_sum : {X : Type 0} → (X → ℤ) → List X → ℤ
 list_sum f [] = pos 0
 list_sum f (x ∷ xs) = f x +ℤ list_sum f xs
 
+-- the same sum over the places of the list
 pub list_sum_is : {X : Type 0} (f : X → ℤ) (xs : List X) (d : X) → sum_below (λ k. f (get_or xs k d)) (length xs) ≡ list_sum f xs
 list_sum_is f [] d = refl
 list_sum_is f (x ∷ xs) d = sum_first (λ k. f (get_or (x ∷ xs) k d)) (length xs) ∙ ap (λ (t : ℤ). f x +ℤ t) (list_sum_is f xs d)
@@ -23,6 +25,7 @@ list_sum-append : {X : Type 0} (f : X → ℤ) (xs ys : List X) → list_sum f (
 list_sum-append f [] ys = nothing_before _
 list_sum-append f (x ∷ xs) ys = ap (λ (t : ℤ). f x +ℤ t) (list_sum-append f xs ys) ∙ grouped (f x) _ _
 
+-- sums over lists that `flat_map`, `map` and `filter` make, as sums over the lists that they are made of
 pub list_sum-flat_map : {X Y : Type 0} (f : Y → ℤ) (h : X → List Y) (xs : List X) → list_sum f (flat_map h xs) ≡ list_sum (λ x. list_sum f (h x)) xs
 list_sum-flat_map f h [] = refl
 list_sum-flat_map f h (x ∷ xs) = list_sum-append f (h x) (flat_map h xs) ∙ ap (λ (t : ℤ). list_sum f (h x) +ℤ t) (list_sum-flat_map f h xs)
@@ -39,6 +42,7 @@ pub list_sum-filter : {X : Type 0} (f : X → ℤ) (test : X → Bool) (xs : Lis
 list_sum-filter f test [] = refl
 list_sum-filter f test (x ∷ xs) = kept f (test x) x (filter test xs) ∙ ap (λ (t : ℤ). (if test x then f x else pos 0) +ℤ t) (list_sum-filter f test xs)
 
+-- sums over numbers in a row, as sums below a bound
 pub list_sum-range : (f : ℕ → ℤ) (a n : ℕ) → list_sum f (range_with_len a n) ≡ sum_below (λ k. f (a + k)) n
 list_sum-range f a zero = refl
 list_sum-range f a (suc n) =

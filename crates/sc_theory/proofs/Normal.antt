@@ -21,6 +21,7 @@ abbrev pub onto : Word → Word → Word
 onto [] s = s
 onto (x ∷ w) s = push x (onto w s)
 
+-- the normal form: the letters of a word pushed before nothing
 abbrev pub normal : Word → Word
 normal w = onto w []
 
@@ -30,6 +31,7 @@ push_gone x y s h = cond-true (is_inverse x y) s (x ∷ y ∷ s) h
 push_stays : (x y : Letter) (s : Word) → is_inverse x y ≡ false → push x (y ∷ s) ≡ x ∷ y ∷ s
 push_stays x y s h = cond-false (is_inverse x y) s (x ∷ y ∷ s) h
 
+-- what is pushed before a word that allows no free deletion leaves such a word, so normal forms are such
 pub IsFree-push : (x : Letter) (s : Word) → IsFree s → IsFree (push x s)
 IsFree-push x [] f = refl
 IsFree-push x (y ∷ s) f = elim (cases_Bool (is_inverse x y)) [
@@ -44,6 +46,7 @@ IsFree-onto (x ∷ w) s f = IsFree-push x (onto w s) (IsFree-onto w s f)
 pub IsFree-normal : (w : Word) → IsFree (normal w)
 IsFree-normal w = IsFree-onto w [] refl
 
+-- a letter that makes no free deletion possible stays
 pub push_free : (x : Letter) (s : Word) → IsFree (x ∷ s) → push x s ≡ x ∷ s
 push_free x [] f = refl
 push_free x (y ∷ s) f = push_stays x y s (is_inverse-from_none x y s f)
@@ -59,6 +62,7 @@ push-push x y (z ∷ s) h f = elim (cases_Bool (is_inverse y z)) [
   | inr stays ↦ ap (push x) (push_stays y z s stays) ∙ push_gone x y (z ∷ s) h
 ]
 
+-- the second word of a product is pushed first, and then the first word
 pub onto-append : (u v s : Word) → onto (u ++ v) s ≡ onto u (onto v s)
 onto-append [] v s = refl
 onto-append (x ∷ u) v s = ap (push x) (onto-append u v s)
@@ -80,11 +84,13 @@ pub onto-normal : (u s : Word) → IsFree s → onto (normal u) s ≡ onto u s
 onto-normal [] s f = refl
 onto-normal (x ∷ u) s f = onto-push x (normal u) s f ∙ ap (push x) (onto-normal u s f)
 
+-- the normal form of a product comes from those of its words
 pub normal-append : (u v : Word) → normal (u ++ v) ≡ onto (normal u) (normal v)
 normal-append u v = onto-append u v [] ∙ sym (onto-normal u (normal v) (IsFree-normal v))
 
 -- ---- free deletions
 
+-- free deletions keep the normal form
 pub normal-FreelyDeletes : (w v : Word) → FreelyDeletes w v → normal w ≡ normal v
 normal-FreelyDeletes w v d =
     ap normal d.from
@@ -123,11 +129,13 @@ free_refuses : (before : Word) (x : Letter) (after : Word) → IsFree (before ++
 free_refuses [] x after f = true≢false (sym (is_inverse-inverse_letter x) ∙ is_inverse-from_none x (inverse_letter x) after f)
 free_refuses (y ∷ before) x after f = free_refuses before x after (delete_leftmost_tail y (before ++ x ∷ inverse_letter x ∷ after) f)
 
+-- where no leftmost pair can be deleted, there is no free deletion anywhere
 pub IsFree-refuses : (w v : Word) → IsFree w → FreelyDeletes w v → ⊥
 IsFree-refuses w v f d = free_refuses d.before d.letter d.after (ap delete_leftmost (sym d.from) ∙ f)
 
 -- ---- inverses
 
+-- a word and its inverse, pushed one after the other, change nothing
 pub onto-inverse : (w s : Word) → IsFree s → onto w (onto (inverse_word w) s) ≡ s
 onto-inverse [] s f = refl
 onto-inverse (x ∷ w) s f =
@@ -142,6 +150,7 @@ onto-inverse_first w s f =
 
 -- ---- the same element
 
+-- two words are the same element exactly where their normal forms, and so their free reductions, are equal
 pub same_normal : (u v : Word) → SameElement u v → normal u ≡ normal v
 same_normal u v h =
     let back = inverse_word v in
@@ -165,6 +174,7 @@ same_reductions u v = (
   λ e. same_from_normal u v (sym (free_reduction-normal u) ∙ e ∙ free_reduction-normal v),
 )
 
+-- to be the same element is an equivalence
 pub same_itself : (w : Word) → SameElement w w
 same_itself w = same_from_normal w w refl
 
@@ -174,6 +184,7 @@ same_other_way u v h = same_from_normal v u (sym (same_normal u v h))
 pub same_through : (u v w : Word) → SameElement u v → SameElement v w → SameElement u w
 same_through u v w h k = same_from_normal u w (same_normal u v h ∙ same_normal v w k)
 
+-- the same elements have the same products, and the same inverses
 pub same_products : (u u' v v' : Word) → SameElement u u' → SameElement v v' → SameElement (u ++ v) (u' ++ v')
 same_products u u' v v' h k =
     same_from_normal (u ++ v) (u' ++ v')

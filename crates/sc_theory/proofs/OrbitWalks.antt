@@ -17,6 +17,7 @@ abbrev pub price_at : (ℕ → ℕ → ℤ) → Sides → ℕ → ℤ
 price_at price g s = price (label g s) (label g (turn g s))
 
 module _ (c : Chain) (n : ℕ) (g : Sides) (is : IsFatgraph c n g) where
+  -- to turn leads from side to side, by a step between their labels
   pub turn_inside : (s : ℕ) → s < length g → turn g s < length g
   turn_inside s inside = is.mates (next g s) (is.nexts s inside)
 
@@ -31,6 +32,7 @@ module _ (c : Chain) (n : ℕ) (g : Sides) (is : IsFatgraph c n g) where
   walks_back start zero s inside ends = subst (λ (x : ℕ). IsStep c (label g s) x) ends (turn_steps s inside)
   walks_back start (suc k) s inside ends = (turn_steps s inside, walks_back start k (turn g s) (turn_inside s inside) ends)
 
+  -- the labels of the sides round a vertex are a closed walk
   pub orbit_walks : (s k : ℕ) → s < length g → iterate (turn g) (suc k) s ≡ s → IsClosedWalk c (labels_from g (suc k) s)
   orbit_walks s k inside returns = walks_back (label g s) k s inside (ap (label g) returns)
 

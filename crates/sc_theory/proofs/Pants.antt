@@ -72,6 +72,7 @@ starts_inside : (i start : ℕ) (js : List ℕ) → WalksBack pants start i js �
 starts_inside i start [] walk = walk.from
 starts_inside i start (j ∷ js) walk = walk.0.from
 
+-- there is no polygon but one
 pub only_polygon : (walk : List ℕ) → IsPolygon pants walk → walk ≡ 0 ∷ 2 ∷ 1 ∷ 3 ∷ []
 only_polygon [] polygon = absurd polygon.closed
 only_polygon (zero ∷ js) polygon = let rest = from_0 js polygon.closed polygon.least in cc
@@ -89,6 +90,7 @@ step_1 = record { from = lit< tt; to = lit< tt; inverse = refl }
 step_3 : IsStep pants 3 0
 step_3 = record { from = lit< tt; to = lit< tt; inverse = refl }
 
+-- and that one is a polygon
 pub polygon : IsPolygon pants (0 ∷ 2 ∷ 1 ∷ 3 ∷ [])
 polygon = record {
   closed = (step_0, (step_2, (step_1, step_3)));

@@ -55,6 +55,7 @@ twice true = refl
 inverse_twice : (x : Letter) → inverse_letter (inverse_letter x) ≡ x
 inverse_twice x = ap (λ (b : Bool). record { number = x.number; inverse = b }) (twice x.inverse)
 
+-- where x is the inverse of y, y passes the test for the inverse of x
 pub inverse_before : (x y : Letter) → x ≡ inverse_letter y → is_inverse x y ≡ true
 inverse_before x y e = ap (is_inverse x) (sym (inverse_twice y) ∙ sym (ap inverse_letter e)) ∙ is_inverse_of x
 
@@ -82,6 +83,7 @@ module _ (c : Chain) (is : IsChain c) where
             no_wrap (word c w) k reduced.1 last (sym here ∙ loop ∙ ap inverse_letter there)
       ]
 
+  -- no step leads from a position to itself
   pub no_loop : (i : ℕ) → IsStep c i i → ⊥
   no_loop i step =
       let a : At c i = at c i step.from in

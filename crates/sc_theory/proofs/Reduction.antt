@@ -14,6 +14,7 @@ pub cases_option : {A : Type 0} (o : Option A) → (o ≡ None) ⊎ ((x : A) × 
 cases_option None = inl refl
 cases_option (Some x) = inr (x, refl)
 
+-- what was mapped to something was there, and what was mapped to nothing was not
 pub option_map_some : {A B : Type 0} (f : A → B) (o : Option A) (v : B) → option_map f o ≡ Some v → (a : A) × (o ≡ Some a) × (f a ≡ v)
 option_map_some f None v h = absurd (none-some v h)
 option_map_some f (Some a) v h = (a, refl, same_Some (f a) v h)
@@ -24,6 +25,7 @@ option_map_none f (Some a) h = cc
 
 -- ---- a deletion of the leftmost pair
 
+-- the first two letters are the leftmost pair where they are inverse, and else it is in the word behind the first
 pub delete_leftmost_here : (x y : Letter) (w : Word) → is_inverse x y ≡ true → delete_leftmost (x ∷ y ∷ w) ≡ Some w
 delete_leftmost_here x y w h = cond-true (is_inverse x y) _ _ h
 
@@ -56,6 +58,7 @@ FreelyDeletes-leftmost (x ∷ y ∷ w) v h = elim (cases_Bool (is_inverse x y)) 
 
 -- ---- what every deletion keeps, and that it shortens
 
+-- a free deletion keeps the totals, and takes out two letters
 pub total-FreelyDeletes : (g : ℕ) (w v : Word) → FreelyDeletes w v → total g w ≡ total g v
 total-FreelyDeletes g w v d =
     let pair = d.letter ∷ inverse_letter d.letter ∷ [] in
@@ -76,6 +79,7 @@ length-FreelyDeletes w v d =
 
 -- ---- a deletion of the ends
 
+-- a word is its letters before the last, and the last
 pub all_but_last-last_letter : (x : Letter) (w : Word) → x ∷ w ≡ all_but_last x w ++ last_letter x w ∷ []
 all_but_last-last_letter x [] = refl
 all_but_last-last_letter x (y ∷ w) = ap (λ (u : Word). x ∷ u) (all_but_last-last_letter y w)
@@ -85,6 +89,7 @@ pub record DeletesEnds (w v : Word) : Type 0 where
   pub letter : Letter
   pub from : w ≡ letter ∷ (v ++ inverse_letter letter ∷ [])
 
+-- what `delete_ends` takes out is a letter at the front and its inverse at the end
 pub DeletesEnds-delete_ends : (w v : Word) → delete_ends w ≡ Some v → DeletesEnds w v
 DeletesEnds-delete_ends [] v h = absurd (none-some v h)
 DeletesEnds-delete_ends (x ∷ []) v h = absurd (none-some v h)
@@ -99,6 +104,7 @@ DeletesEnds-delete_ends (x ∷ y ∷ w) v h = elim (cases_Bool (is_inverse x (la
   | inr absent ↦ absurd (none-some v (sym (cond-false (is_inverse x (last_letter y w)) (Some (all_but_last y w)) None absent) ∙ h))
 ]
 
+-- a deletion of the ends keeps the totals, and takes out two letters
 pub total-DeletesEnds : (g : ℕ) (w v : Word) → DeletesEnds w v → total g w ≡ total g v
 total-DeletesEnds g w v d =
     let x = d.letter in
@@ -116,12 +122,14 @@ length-DeletesEnds w v d = omega (arith, ap length d.from, length-append v (inve
 
 -- ---- a deletion in cyclic reduction
 
+-- a deletion in cyclic reduction is one of the leftmost pair, or where there is none one of the ends
 pub cases_delete_cyclically : (w v : Word) → delete_cyclically w ≡ Some v → (delete_leftmost w ≡ Some v) ⊎ ((delete_leftmost w ≡ None) × (delete_ends w ≡ Some v))
 cases_delete_cyclically w v h = elim (cases_option (delete_leftmost w)) [
   | inl absent ↦ inr (absent, ap (λ (o : Option Word). option_or o (delete_ends w)) (sym absent) ∙ h)
   | inr there ↦ inl (there.1 ∙ ap (λ (o : Option Word). option_or o (delete_ends w)) (sym there.1) ∙ h)
 ]
 
+-- a word without either allows no deletion
 pub delete_cyclically_none : (w : Word) → delete_leftmost w ≡ None → delete_ends w ≡ None → delete_cyclically w ≡ None
 delete_cyclically_none w f e = ap (λ (o : Option Word). option_or o (delete_ends w)) f ∙ e
 
@@ -132,6 +140,7 @@ IsReduced-parts w r = elim (cases_option (delete_leftmost w)) [
   | inr there ↦ absurd (none-some there.0 (sym r ∙ ap (λ (o : Option Word). option_or o (delete_ends w)) there.1))
 ]
 
+-- so each deletion keeps the totals
 pub total-delete_leftmost : (g : ℕ) (w v : Word) → delete_leftmost w ≡ Some v → total g w ≡ total g v
 total-delete_leftmost g w v h = total-FreelyDeletes g w v (FreelyDeletes-leftmost w v h)
 
@@ -141,6 +150,7 @@ total-delete_cyclically g w v h = elim (cases_delete_cyclically w v h) [
   | inr ends ↦ total-DeletesEnds g w v (DeletesEnds-delete_ends w v ends.1)
 ]
 
+-- and each takes out two letters
 pub length-delete_leftmost : (w v : Word) → delete_leftmost w ≡ Some v → length w ≡ length v + 2
 length-delete_leftmost w v h = length-FreelyDeletes w v (FreelyDeletes-leftmost w v h)
 
@@ -152,6 +162,7 @@ length-delete_cyclically w v h = elim (cases_delete_cyclically w v h) [
 
 -- ---- many deletions
 
+-- where no deletion is possible the word stays, and else the others follow the first
 pub deleted_none : (delete : Word → Option Word) (n : ℕ) (w : Word) → delete w ≡ None → deleted delete n w ≡ w
 deleted_none delete zero w h = refl
 deleted_none delete (suc n) w h = ap (λ (o : Option Word). unwrap_or (option_map (deleted delete n) o) w) h
@@ -180,18 +191,21 @@ deleted_allows_none delete shorter (suc n) w short = elim (cases_option (delete 
 
 -- ---- reduction
 
+-- what reduction leaves allows no deletion
 pub delete_leftmost-free_reduction : (w : Word) → delete_leftmost (free_reduction w) ≡ None
 delete_leftmost-free_reduction w = deleted_allows_none delete_leftmost length-delete_leftmost (length w) w (omega arith)
 
 pub IsReduced-cyclic_reduction : (w : Word) → IsReduced (cyclic_reduction w)
 IsReduced-cyclic_reduction w = deleted_allows_none delete_cyclically length-delete_cyclically (length w) w (omega arith)
 
+-- what allows no deletion is its own reduction
 pub free_reduction-itself : (w : Word) → delete_leftmost w ≡ None → free_reduction w ≡ w
 free_reduction-itself w h = deleted_none delete_leftmost (length w) w h
 
 pub cyclic_reduction-itself : (w : Word) → IsReduced w → cyclic_reduction w ≡ w
 cyclic_reduction-itself w h = deleted_none delete_cyclically (length w) w h
 
+-- reduction keeps the totals
 pub total-free_reduction : (g : ℕ) (w : Word) → total g (free_reduction w) ≡ total g w
 total-free_reduction g w = deleted_keeps delete_leftmost (total g) (total-delete_leftmost g) (length w) w
 

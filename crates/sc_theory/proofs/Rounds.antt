@@ -11,6 +11,7 @@ use Rattle.sc_theory.proofs.Reduction.{delete_leftmost_here, delete_leftmost_lat
 
 -- ---- neighbours
 
+-- where no two neighbours are inverse, the first two aren't, nor any behind the first; and the other way round
 pub is_inverse-from_none : (x y : Letter) (w : Word) → delete_leftmost (x ∷ y ∷ w) ≡ None → is_inverse x y ≡ false
 is_inverse-from_none x y w h = false_from_ne_true (is_inverse x y) (λ t. none-some w (sym h ∙ delete_leftmost_here x y w t))
 
@@ -22,6 +23,7 @@ delete_leftmost_tail x (y ∷ w) h =
 pub delete_leftmost-cons : (x y : Letter) (w : Word) → is_inverse x y ≡ false → delete_leftmost (y ∷ w) ≡ None → delete_leftmost (x ∷ y ∷ w) ≡ None
 delete_leftmost-cons x y w f h = delete_leftmost_later x y w f ∙ ap (option_map (λ (rest : Word). x ∷ rest)) h
 
+-- a word allows no free deletion exactly where no letter is the inverse of the one behind it
 pub neighbours_from_none : (w : Word) → delete_leftmost w ≡ None → (k : ℕ) → suc k < length w → is_inverse (letter_at w k) (letter_at w (suc k)) ≡ false
 neighbours_from_none [] h k l = absurd (omega arith)
 neighbours_from_none (x ∷ []) h k l = absurd (omega arith)
@@ -36,6 +38,7 @@ none_from_neighbours (x ∷ y ∷ w) f =
 
 -- ---- the ends
 
+-- the last letter is the one at the last place
 pub last_letter-at : (x : Letter) (w : Word) → last_letter x w ≡ letter_at (x ∷ w) (length w)
 last_letter-at x [] = refl
 last_letter-at x (y ∷ w) = last_letter-at y w
@@ -50,11 +53,13 @@ is_inverse-itself x = false_from_ne_true (is_inverse x x) (λ t. apart x.inverse
 ends_from_none : (x y : Letter) (w : Word) → delete_ends (x ∷ y ∷ w) ≡ None → is_inverse x (last_letter y w) ≡ false
 ends_from_none x y w h = false_from_ne_true (is_inverse x (last_letter y w)) (λ t. none-some (all_but_last y w) (sym h ∙ cond-true (is_inverse x (last_letter y w)) (Some (all_but_last y w)) None t))
 
+-- ends that aren't inverse are not deleted
 pub none_from_ends : (x y : Letter) (w : Word) → is_inverse x (last_letter y w) ≡ false → delete_ends (x ∷ y ∷ w) ≡ None
 none_from_ends x y w f = cond-false (is_inverse x (last_letter y w)) (Some (all_but_last y w)) None f
 
 -- ---- round the word
 
+-- round the word the next place is one more, and behind the last it is the first
 pub next_round-inside : (w : Word) (k : ℕ) → suc k < length w → next_round w k ≡ suc k
 next_round-inside w k l = cond-false (suc k == length w) 0 (suc k) (ne_eqb (suc k) (length w) (λ e. omega arith))
 
@@ -89,6 +94,7 @@ none_from_last (x ∷ y ∷ w) f =
 
 -- ---- the law
 
+-- a word is reduced exactly where no letter is the inverse of the next one round the word
 pub places_from_reduced : (w : Word) → IsReduced w → (k : ℕ) → k < length w → cancels_next w k ≡ false
 places_from_reduced w r k l = elim (cases_eq (suc k) (length w)) [
   | inl e ↦ cancels_last w k e ∙ last_from_none w (IsReduced-parts w r).1 k e
@@ -128,5 +134,6 @@ least_cancelling w h = elim (search_below w (length w) (omega arith)) [
   | inr found ↦ found
 ]
 
+-- a word that has such a place isn't reduced
 pub unreduced_from_cancelling : (w : Word) (k : ℕ) → IsLeastCancelling w k → IsReduced w → ⊥
 unreduced_from_cancelling w k found r = true≢false (sym found.cancels ∙ places_from_reduced w r k found.inside)

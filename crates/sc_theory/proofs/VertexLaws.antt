@@ -23,9 +23,11 @@ at_least_none t zero s = omega (arith, ints)
 at_least_none t (suc k) s = let rest = at_least_none t k (t s) in omega (arith, ints)
 
 module _ (c : Chain) (n : ℕ) (g : Sides) (is : IsFatgraph c n g) where
+  -- a side is counted as a vertex exactly where no number of turns leads to a lesser side
   pub least_of_all : (s : ℕ) → s < length g → IsTrue (is_least_for (turn g) (length g) s) ↔ ((k : ℕ) → s ≤ iterate (turn g) k s)
   least_of_all s inside = (least_means_least (turn_permutes c n g is) s inside, least_from_all (turn g) (length g) s)
 
+  -- there are two sides for each edge
   pub even_sides : length g ≡ 2 * edges g
   even_sides = halves _ (length g) (parity (mate g) (length g) is.mates is.back is.moves)
 
@@ -36,6 +38,7 @@ module _ (c : Chain) (n : ℕ) (g : Sides) (is : IsFatgraph c n g) where
   two_along chain s zero inside back = absurd (turn_moves chain s inside back)
   two_along chain s (suc k) inside back = let rest = at_least_none (turn g) k (turn g (turn g s)) in omega (arith, ints)
 
+  -- over a chain a labelled fatgraph has at least as many edges as vertices
   pub cost_not_negative : IsChain c → pos 0 ≤ℤ cost g
   cost_not_negative chain =
       not_negative (vertices g) (edges g) (length g)

@@ -22,6 +22,7 @@ start_inside c s i [] step = step.from
 start_inside c s i (j ∷ js) walk = walk.0.from
 
 module _ (c : Chain) (list : Prices) (tables : Tables) (above : pos 0 <ℤ list.scale) (vouch : Vouch c list tables) where
+  -- an entry, and the price of a walk from there back to the start of its row, come to at least the scale
   pub along : (s i : ℕ) (js : List ℕ) (a : ℤ) → s < positions c → entry tables s i ≡ Some a → WalksBack c s i js → list.scale ≤ℤ (a +ℤ total_back (price c list) s i js)
   along s i [] a inside present step = vouch.returns s i a inside step present
   along s i (j ∷ js) a inside present walk =
@@ -36,6 +37,7 @@ module _ (c : Chain) (list : Prices) (tables : Tables) (above : pos 0 <ℤ list.
             past_start list.scale a far.0 _ _ far.2 (along s j js far.0 inside far.1 walk.1)
       ]
 
+  -- a list that tables vouch for covers the chain
   pub covers : Covers c list
   covers [] walk = absurd walk
   covers (i ∷ js) walk =

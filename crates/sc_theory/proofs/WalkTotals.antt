@@ -16,6 +16,7 @@ total-congr c f g same start i (j ∷ js) walk =
     let rest = total-congr c f g same start j js walk.1 in
     cc
 
+-- prices that agree on the steps have the same total over a closed walk
 pub walk_total-congr : (c : Chain) (f g : ℕ → ℕ → ℤ) → ((i j : ℕ) → IsStep c i j → f i j ≡ g i j) → (walk : List ℕ) → IsClosedWalk c walk → walk_total f walk ≡ walk_total g walk
 walk_total-congr c f g same [] walk = refl
 walk_total-congr c f g same (i ∷ js) walk = total-congr c f g same i i js walk
@@ -27,6 +28,7 @@ total-sub : (f g : ℕ → ℕ → ℤ) (start i : ℕ) (js : List ℕ) → tota
 total-sub f g start i [] = refl
 total-sub f g start i (j ∷ js) = ap (λ (x : ℤ). (f i j -ℤ g i j) +ℤ x) (total-sub f g start j js) ∙ differences (f i j) (g i j) _ _
 
+-- the total of a difference, of a multiple and of a sum of prices is that of the totals
 pub walk_total-sub : (f g : ℕ → ℕ → ℤ) (walk : List ℕ) → walk_total (λ a b. f a b -ℤ g a b) walk ≡ walk_total f walk -ℤ walk_total g walk
 walk_total-sub f g [] = refl
 walk_total-sub f g (i ∷ js) = total-sub f g i i js
@@ -67,6 +69,7 @@ total_ends : (test : ℕ → Bool) (start i : ℕ) (js : List ℕ) → total_bac
 total_ends test start i [] = nothing_before _
 total_ends test start i (j ∷ js) = one_more (test j) (count_by test js) (count_by test (j ∷ js)) _ _ (sum_by-cons (λ (x : ℕ). cond (test x) 1 0) j js) (total_ends test start j js)
 
+-- their total is the number of positions of the walk that pass
 pub walk_total-ends : (test : ℕ → Bool) (walk : List ℕ) → walk_total (ends_at test) walk ≡ pos (count_by test walk)
 walk_total-ends test [] = refl
 walk_total-ends test (i ∷ js) = total_ends test i i js ∙ counted (test i) (count_by test js) (count_by test (i ∷ js)) (sum_by-cons (λ (x : ℕ). cond (test x) 1 0) i js)
@@ -79,6 +82,7 @@ total_climb : (height : ℕ → ℕ) (start i : ℕ) (js : List ℕ) → total_b
 total_climb height start i [] = omega (arith, ints)
 total_climb height start i (j ∷ js) = let rest = total_climb height start j js in omega (arith, ints)
 
+-- round a closed walk the rises cancel, and the number of steps is left
 pub walk_total-climb : (height : ℕ → ℕ) (walk : List ℕ) → walk_total (climb height) walk ≡ pos (length walk)
 walk_total-climb height [] = refl
 walk_total-climb height (i ∷ js) = let all = total_climb height i i js in omega (arith, ints)

@@ -9,6 +9,7 @@ use mathlib.Core.List.{reverse-cons}
 use Rattle.sc_theory.specs.declared.Letter.{Letter}
 use Rattle.sc_theory.specs.Words.{Word, inverse_letter, same_sign, is_inverse, inverse_word, is_positive, is_negative, total}
 
+-- the letter with a number and a sign
 abbrev pub letter_of : ℕ → Bool → Letter
 letter_of n b = record { number = n; inverse = b }
 
@@ -57,6 +58,7 @@ is_negative-inverse_letter g x = refl
 pub inverse_word-cons : (x : Letter) (w : Word) → inverse_word (x ∷ w) ≡ inverse_word w ++ inverse_letter x ∷ []
 inverse_word-cons x w = ap (map inverse_letter) (reverse-cons x w) ∙ map-append inverse_letter (reverse w) (x ∷ [])
 
+-- the inverse of a product is the product of the inverses in reverse order
 pub inverse_word-append : (u v : Word) → inverse_word (u ++ v) ≡ inverse_word v ++ inverse_word u
 inverse_word-append u v = ap (map inverse_letter) (reverse-append u v) ∙ map-append inverse_letter (reverse v) (reverse u)
 

@@ -29,6 +29,7 @@ line_then line x more none feed =
     line_before_feed bs (length line) (found ∙ ap (λ (n : ℕ). Some n) place)
     ∙ ap₂ (λ (l : Line) (rest : List ℕ). l ∷ text_lines rest) (take-append_seam line (x ∷ more)) (drop-append-add line (x ∷ more) 1)
 
+-- the first line ends before the first line feed, and the rest stands behind that
 pub cut_at_feed : (text : List ℕ) (e : ℕ) → position is_line_feed text ≡ Some e → IsCut text (take e text) (drop (e + 1) text)
 cut_at_feed text e h =
     let p : IsAt is_line_feed text e = position_some is_line_feed text e h in
@@ -49,6 +50,7 @@ cut_at_feed text e h =
       ended = inl (λ more. ap text_lines (append_assoc line (x ∷ []) more) ∙ line_then line x more none feed ∙ ap (λ (ls : List Line). ls ++ text_lines more) (sym line_is));
     }
 
+-- a text without line feeds, unless it is empty, is one line with nothing behind it
 pub cut_without_feed : (text : List ℕ) → 0 < length text → position is_line_feed text ≡ None → IsCut text text []
 cut_without_feed text some h =
     record {
@@ -83,6 +85,7 @@ pub record IsSearched (text rest : List ℕ) (count : ℕ) : Type 0 where
   pub none : HasNone (text_lines before)
   pub ended : IsWhole before ⊎ (rest ≡ [])
 
+-- at first nothing was searched
 pub search_begins : (text : List ℕ) → IsSearched text text 0
 search_begins text =
     record {
@@ -102,6 +105,7 @@ none_more lines line none other = λ k lt. elim (cases_lt k (length lines)) [
       subst (λ (n : ℕ). is_separator (get_or (lines ++ line ∷ []) n []) ≡ false) at (ap is_separator (get_or-append_seam lines line [] []) ∙ other))
 ]
 
+-- where the first line of the rest doesn't separate, it was searched too
 pub search_goes_on : (text old rest : List ℕ) (line : Line) (count : ℕ) → IsSearched text old count → IsCut old line rest → is_separator line ≡ false → IsSearched text rest (count + 1)
 search_goes_on text old rest line count s c other = elim s.ended [
   | inr gone ↦ absurd (omega (arith, cut_shorter old rest line c, ap length gone))
@@ -126,6 +130,7 @@ search_goes_on text old rest line count s c other = elim s.ended [
       })
 ]
 
+-- no more lines were searched than the text has bytes
 pub search_counts : (text rest : List ℕ) (count : ℕ) → IsSearched text rest count → count ≤ length text
 search_counts text rest count s = omega (arith, s.count_is, lines_le s.before, ap length s.text_is ∙ length-append s.before rest)
 
@@ -146,6 +151,7 @@ searched_is text rest count s =
     let size : length text - length rest ≡ length s.before = omega (arith, ap length s.text_is ∙ length-append s.before rest) in
     sym (ap₂ (λ (n : ℕ) (bs : List ℕ). take n bs) size s.text_is ∙ take-append_seam s.before rest)
 
+-- where it separates, what was searched is a part, and what stands behind the line follows it
 pub search_finds : (text old rest : List ℕ) (line : Line) (count : ℕ) → IsSearched text old count → IsCut old line rest → is_separator line ≡ true →
     IsPart text (take (length text - length old) text) count × IsFollowed text (take (length text - length old) text) rest
 search_finds text old rest line count s c slash =
@@ -158,6 +164,7 @@ search_finds text old rest line count s c slash =
     } in
     subst (λ (part : List ℕ). IsPart text part count × IsFollowed text part rest) (searched_is text old count s) (searched text old count s, followed)
 
+-- where nothing is left to search, the whole text is a part
 pub search_ends : (text rest : List ℕ) (count : ℕ) → IsSearched text rest count → rest ≡ [] → IsPart text text count
 search_ends text rest count s e =
     let all : s.before ≡ text = sym (s.text_is ∙ ap (λ (more : List ℕ). s.before ++ more) e ∙ append-nil s.before) in

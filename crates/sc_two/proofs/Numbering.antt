@@ -39,6 +39,7 @@ lines_below n top [] h = All-nil (IsBelow top)
 lines_below n top (l ∷ ls) h =
     All-append (IsBelow top) (raw_line n (line_case l)) (raw_lines (suc n) ls) (line_below n top (line_case l) (omega (arith, h))) (lines_below (suc n) top ls (omega (arith, h)))
 
+-- the line numbers of a text that is short enough have room behind so many other lines
 pub room_for : (by : ℕ) (text : List ℕ) (read : List RawLine) → IsChainText text read → by + length text < 2 ^ 32 → All (HasRoom by) read
 room_for by text read g h =
     let top : ℕ = 1 + length (text_lines text) in
@@ -51,6 +52,7 @@ letters_moved by [] = refl
 letters_moved by (l ∷ read) =
     omega (arith, letters_moved by read, sum_by-cons (λ (r : RawLine). length r.word) l read, sum_by-cons (λ (r : RawLine). length r.word) (moved by l) (map (moved by) read))
 
+-- the lines of a chain text, moved by so many, are its lines behind so many others
 pub numbered : (by : ℕ) (text : List ℕ) (read new : List RawLine) → IsChainText text read → new ≡ map (moved by) read → AreLinesBehind by text new
 numbered by text read new g e =
     let entries : new ≡ raw_lines (suc by) (text_lines text) = e ∙ ap (map (moved by)) g.entries ∙ moved_lines by 1 (text_lines text) ∙ ap (λ (k : ℕ). raw_lines k (text_lines text)) (omega arith) in

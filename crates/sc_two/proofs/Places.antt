@@ -24,6 +24,7 @@ pub record IsBefore (text part : List ℕ) (count : ℕ) (rest : List ℕ) : Typ
   pub slash : is_separator line ≡ true
   pub lines : text_lines text ≡ text_lines part ++ line ∷ text_lines rest
 
+-- a part and what follows it, taken together
 pub before : (text part rest : List ℕ) (count : ℕ) → IsPart text part count → IsFollowed text part rest → IsBefore text part count rest
 before text part rest count p f = record { count_is = p.count_is; none = p.none; line = f.line; slash = f.slash; lines = f.lines }
 
@@ -127,6 +128,7 @@ none_separates text part count read w same r =
 
 -- ---- the line that separates
 
+-- the line behind the part separates
 pub separates : (text part rest : List ℕ) (count : ℕ) → IsBefore text part count rest → Separates text (count + 1)
 separates text part rest count b =
     let front : List Line = text_lines part in
@@ -230,6 +232,7 @@ separates_again text part rest second behind count more read read' b r b' r' =
 
 -- ---- a good text
 
+-- two parts of lines of chain texts, with one line between them that separates, are a good text
 pub two_parts : (text part rest second : List ℕ) (count : ℕ) (read read' : List RawLine) → IsBefore text part count rest → AreLinesBehind 0 part read →
     second ≡ rest → AreLinesBehind (count + 1) second read' → IsTwoText text read read'
 two_parts text part rest second count read read' b r same r' =
@@ -265,6 +268,7 @@ some_none : {X : Type 0} (o : Option X) → IsSome o → o ≡ None → ⊥
 some_none None s e = absurd (cc)
 some_none (Some x) s e = none-some x (sym e)
 
+-- a good text has no first wrong line
 pub good_or_wrong : (text : List ℕ) (first second : List RawLine) (line : ℕ) (kind : Kind) → IsTwoText text first second → IsFirstWrong text line kind → ⊥
 good_or_wrong text first second line kind g w = elim w.wrong [
   | inl m ↦ some_none (line_case (line_at text line)) (g.cases line w.counted m.in_text (λ e. m.no_separator (subst (Separates text) (sym e) g.separates))) m.no_case
@@ -298,6 +302,7 @@ same_kind text line k l p q = elim p.wrong [
   ]
 ]
 
+-- there is one first wrong line, and one kind that applies to it first
 pub wrong_same : (text : List ℕ) (i j : ℕ) (k l : Kind) → IsFirstWrong text i k → IsFirstWrong text j l → (i ≡ j) × (k ≡ l)
 wrong_same text i j k l p q = elim (cases_order i j) [
   | inl e ↦ (e, same_kind text j k l (subst (λ (n : ℕ). IsFirstWrong text n k) e p) q)
@@ -309,10 +314,12 @@ wrong_same text i j k l p q = elim (cases_order i j) [
 
 -- ---- the faults of the parts
 
+-- what a fault says of a text; want of memory says nothing
 abbrev pub IsFault : List ℕ → TextFault → Type 0
 IsFault text (Malformed line kind) = IsFirstWrong text line kind
 IsFault text Memory = Unit {0}
 
+-- a fault of the first part, and one of the second, is a fault of the text
 pub fault_in_front : (text part : List ℕ) (count : ℕ) (fault : TextFault) → IsPart text part count → IsFaultBehind 0 part fault → IsFault text fault
 fault_in_front text part count (Malformed line kind) p m = wrong_in_front text part p.more line kind p.lines p.none m
 fault_in_front text part count Memory p m = tt
@@ -327,6 +334,7 @@ pub malformed_of : {T : Type 0} (text : List ℕ) (result : Result T TextFault) 
     (line : ℕ) (kind : Kind) → IsErrOf result (Malformed line kind) → IsFirstWrong text line kind
 malformed_of text result fault e f line kind is = let same : fault ≡ Malformed line kind = cc in subst (IsFault text) same f
 
+-- where a line is the first wrong one, the result says so, or that memory is wanting
 pub refused_of : {T : Type 0} (text : List ℕ) (result : Result T TextFault) (fault : TextFault) → result ≡ Err fault → IsFault text fault →
     (line : ℕ) (kind : Kind) → IsFirstWrong text line kind → IsErrOf result (Malformed line kind) ⊎ IsErrOf result Memory
 refused_of text result (Malformed l k) e f line kind w =

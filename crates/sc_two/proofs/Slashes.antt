@@ -17,6 +17,7 @@ is_some_field f = not (length f == 0)
 abbrev pub bare : List ℕ → List ℕ
 bare bs = filter (λ b. not (is_blank b)) bs
 
+-- whether there is one byte, a slash
 abbrev pub is_lone_slash : List ℕ → Bool
 is_lone_slash [] = false
 is_lone_slash (b ∷ []) = b == 47
@@ -88,6 +89,7 @@ of_split (b ∷ bs) = elim (cases_Bool (is_blank b)) [
   | inr other ↦ rw (slice_split-cons_no is_blank b bs other, other) (onto b (slice_split is_blank bs) ∙ ap (λ (rest : List ℕ). b ∷ rest) (of_split bs))
 ]
 
+-- the only field is a slash exactly where the slash is the only byte that isn't blank
 pub slash_is_lone : (bs : List ℕ) → is_slash (fields bs) ≡ is_lone_slash (bare bs)
 slash_is_lone bs = in_parts (slice_split is_blank bs) ∙ ap is_lone_slash (of_split bs)
 
@@ -100,6 +102,7 @@ slash_is ((b ∷ []) ∷ []) e = ap (λ (c : ℕ). (c ∷ []) ∷ []) (eqb-true 
 slash_is ((b ∷ c ∷ f) ∷ []) e = absurd (true≢false (sym e ∙ more_bytes b c f []))
 slash_is (f ∷ g ∷ fs) e = absurd (true≢false (sym e))
 
+-- a line that separates is no line of a chain text
 pub slash_has_no_case : (line : Line) → is_separator line ≡ true → line_case line ≡ None
 slash_has_no_case line e =
     let nothing : Option Entry = None in
