@@ -1,5 +1,5 @@
 -- Digits and coefficients.
-use Rattle.std.proofs.Common.{◌≡◌, ℕ, zero, suc, ◌+◌, ◌*◌, ◌-◌, ◌^◌, ◌<◌, ◌≤◌, Bool, true, false, ◌&&◌, ◌||◌, eqb, leb, [], ◌∷◌, length, get_or, take, map, Option, Some, None, ℤ, pos, neg_ℤ, ◌≤ℤ◌, refl, sym, subst, ◌∙◌, arith, add-one, inl, inr}
+use Rattle.std.proofs.Common.{◌≡◌, ℕ, ◌+◌, ◌*◌, ◌-◌, ◌^◌, ◌<◌, ◌≤◌, Bool, true, false, ◌&&◌, ◌||◌, eqb, leb, [], ◌∷◌, length, get_or, take, map, Option, Some, None, ℤ, pos, neg_ℤ, ◌≤ℤ◌, refl, sym, subst, ◌∙◌, arith, add-one, inl, inr}
 use Rattle.std.specs.List.{list_all}
 use Rattle.std.specs.Option.{option_map}
 use Rattle.std.specs.Int.Digits.{number_from_digits}
@@ -45,13 +45,6 @@ next_number ds i n d h e f =
 
 pub next_bound : (i n d : ℕ) → n < 10 ^ i → d ≤ 9 → n * 10 + d < 10 ^ (i + 1)
 next_bound i n d h l = rw (add-one, pow-suc) (omega arith)
-
-pub few_digits : (i n : ℕ) → i < COEFFICIENT_DIGITS → n < 10 ^ i → n < 10000
-few_digits zero n h l = omega arith
-few_digits (suc zero) n h l = omega arith
-few_digits (suc (suc zero)) n h l = omega arith
-few_digits (suc (suc (suc zero))) n h l = omega arith
-few_digits (suc (suc (suc (suc i)))) n h l = absurd (omega arith)
 
 -- a field that begins as a number is no word, and one that doesn't is no coefficient
 

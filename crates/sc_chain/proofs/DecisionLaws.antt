@@ -68,10 +68,6 @@ decision_agrees f fs = elim (cases_Bool (begins_number f)) [
 
 -- ---- a line whose first field begins no comment
 
-pub case_ok : (line : Line) (f : Field) (fs : List Field) (x : ℤ × Word) → line_fields line ≡ f ∷ fs → is_comment (f ∷ fs) ≡ false → decision f fs ≡ Ok x →
-    line_case line ≡ Some (Some x)
-case_ok line f fs x e c d = rw (e, c) (subst (Agrees (fields_case (f ∷ fs)) (fields_kind (f ∷ fs))) d (decision_agrees f fs))
-
 pub record HasNoCase (line : Line) (kind : Kind) : Type 0 where
   pub no_case : line_case line ≡ None
   pub kind_is : fields_kind (line_fields line) ≡ kind

@@ -70,10 +70,6 @@ pub all-append : (P : ℕ × ℕ → Type 0) (xs ys : List (ℕ × ℕ)) → All
 all-append P [] ys h k = k
 all-append P (x ∷ xs) ys h k = (h.0, all-append P xs ys h.1 k)
 
-pub all-weaker : (P Q : ℕ × ℕ → Type 0) (xs : List (ℕ × ℕ)) → ((a : ℕ × ℕ) → P a → Q a) → AllByRecursion P xs → AllByRecursion Q xs
-all-weaker P Q [] f h = tt
-all-weaker P Q (x ∷ xs) f h = (f x h.0, all-weaker P Q xs f h.1)
-
 abbrev pub AreApart : List (ℕ × ℕ) → Type 0
 AreApart [] = Unit {0}
 AreApart (a ∷ rest) = AllByRecursion (λ b. same a b.0 b.1 ≡ false) rest × AreApart rest

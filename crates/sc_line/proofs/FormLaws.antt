@@ -1,14 +1,11 @@
 -- Laws of forms: what they are made of by lawful forms is lawful.
-use Rattle.std.proofs.Common.{◌≡◌, ℕ, zero, suc, ◌+◌, ◌-◌, ◌≤◌, true, false, List, [], ◌∷◌, ◌++◌, map, length, Option, Some, None, refl, sym, ap, subst, ◌∙◌, append_assoc, append-nil, arith}
+use Rattle.std.proofs.Common.{◌≡◌, ℕ, zero, suc, ◌+◌, ◌-◌, ◌≤◌, true, false, List, [], ◌∷◌, ◌++◌, map, length, None, refl, sym, ap, subst, ◌∙◌, append_assoc, append-nil, arith}
 use Rattle.std.specs.List.{AllByRecursion}
-use Rattle.std.proofs.lemmas.List.{length_push}
-use Rattle.sc_line.specs.declared.fault.Kind.{Kind}
 use Rattle.sc_line.specs.Lines.{Line, count_line, count_in, lacks, AllLack}
-use Rattle.sc_line.specs.Faults.{between, numbers_line_fault}
 use Rattle.sc_line.specs.Formats.{Format, told, a_line, Reads, IsShort, IsLineKind, IsCountInRange}
-use Rattle.sc_line.specs.Forms.{LineKind, literal_due, one_due, count_kind, lines_after, more_due, many_due, counted_from, Both, and_also, and_then, both_due, IsLawful}
+use Rattle.sc_line.specs.Forms.{LineKind, literal_due, one_due, lines_after, more_due, many_due, counted_from, Both, and_also, and_then, both_due, IsLawful}
 use Rattle.sc_line.proofs.NumberLaws.{good_literal, literal_inverse, count_is_kind}
-use Rattle.sc_line.proofs.FormatLaws.{reads_append, told_is, line_told, nothing_more, short_more}
+use Rattle.sc_line.proofs.FormatLaws.{told_is, line_told, nothing_more, short_more}
 
 pub lacks_both : (xs ys : List Line) → AllLack 10 xs → AllLack 10 ys → AllLack 10 (xs ++ ys)
 lacks_both [] ys h k = k

@@ -1,13 +1,13 @@
 -- Laws of formats: which lines are read in a format, and when a text has no fault.
-use Rattle.std.proofs.Common.{◌≡◌, ◌≢◌, ℕ, zero, suc, ◌≤◌, Bool, true, false, cond, eqb, List, [], ◌∷◌, ◌++◌, length, Option, Some, None, is_some, refl, sym, ap, subst, ◌∙◌, append_assoc, arith, inl, inr}
-use Rattle.std.proofs.lemmas.Bool.{cases_Bool, eqb-true, ne_eqb, false≢true}
+use Rattle.std.proofs.Common.{◌≡◌, ◌≢◌, ℕ, zero, suc, ◌≤◌, cond, eqb, List, [], ◌∷◌, ◌++◌, length, Option, Some, None, is_some, refl, sym, ap, subst, ◌∙◌, append_assoc, arith, inl, inr}
+use Rattle.std.proofs.lemmas.Bool.{cases_Bool, eqb-true, false≢true}
 use Rattle.std.proofs.lemmas.List.{nil_from_length, length_push}
 use Rattle.std.proofs.lemmas.Option.{none-some}
 use Rattle.sc_line.specs.declared.fault.Kind.{Kind}
 use Rattle.sc_line.specs.declared.fault.Kind.TheVariants.{Ended, Rest}
 use Rattle.sc_line.specs.Lines.{Line, parts}
 use Rattle.sc_line.specs.Faults.{line_fault, part_fault, IsFaultless}
-use Rattle.sc_line.specs.Formats.{Format, told, a_line, due_line, is_told, after_line, after_lines, plan_of, fault_due, end_fault, Steps, Reads, IsShort}
+use Rattle.sc_line.specs.Formats.{Format, told, a_line, due_line, after_line, after_lines, plan_of, fault_due, Steps, Reads, IsShort}
 use Rattle.sc_line.proofs.LineLaws.{split_some}
 use Rattle.sc_line.proofs.FaultLaws.{HasRead, read_nothing, read_more, read_all, fault_at_part}
 

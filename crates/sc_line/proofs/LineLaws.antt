@@ -1,6 +1,6 @@
 -- Laws of lines, fields and numbers.
-use Rattle.std.proofs.Common.{◌≡◌, ◌≢◌, ℕ, zero, suc, ◌+◌, ◌-◌, ◌<◌, ◌≤◌, Bool, true, false, not, eqb, ltb, List, [], ◌∷◌, ◌++◌, map, length, get_or, take, drop, Option, Some, None, ℤ, pos, negsuc, neg_ℤ, ◌≤ℤ◌, refl, sym, ap, subst, ◌∙◌, append_assoc, append-nil, arith, All, inl, inr, T}
-use Rattle.std.specs.List.{slice_split, onto_first, position, position_or_len, join_with_byte, list_all, AllByRecursion}
+use Rattle.std.proofs.Common.{◌≡◌, ◌≢◌, ℕ, zero, suc, ◌+◌, ◌-◌, ◌<◌, ◌≤◌, Bool, true, false, eqb, ltb, List, [], ◌∷◌, ◌++◌, map, length, get_or, take, drop, Option, Some, None, ℤ, pos, negsuc, neg_ℤ, ◌≤ℤ◌, refl, sym, ap, subst, ◌∙◌, append_assoc, append-nil, arith, All, inl, inr, T}
+use Rattle.std.specs.List.{slice_split, onto_first, position, position_or_len, join_with_byte, AllByRecursion}
 use Rattle.std.specs.Prelude.{int_le, FitsSigned}
 use Rattle.std.specs.Int.{IsInRange, w128}
 use Rattle.std.specs.Int.Digits.{digits_of, number_from_digits}
@@ -23,12 +23,6 @@ split_found p xs i e =
     let at = cond_some _ _ _ e in
     let cut = slice_split_first p xs 0 (ltb-true _ _ at.0) in
     subst (λ (k : ℕ). slice_split p xs ≡ take k xs ∷ slice_split p (drop (k + 1) xs)) at.1 cut
-
-pub found_within : (p : ℕ → Bool) (xs : List ℕ) (i : ℕ) → position p xs ≡ Some i → i < length xs
-found_within p xs i e =
-    let at = cond_some _ _ _ e in
-    let within : position_or_len p xs < length xs = ltb-true _ _ at.0 in
-    rw (← at.1) within
 
 split_past : (p : ℕ → Bool) (xs : List ℕ) → length xs ≤ position_or_len p xs → slice_split p xs ≡ xs ∷ []
 split_past p [] h = refl

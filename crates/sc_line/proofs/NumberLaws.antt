@@ -1,5 +1,5 @@
 -- The numbers in lines, and the lines of a name and numbers.
-use Rattle.std.proofs.Common.{◌≡◌, ◌≢◌, ℕ, ◌≤◌, ◌≤ℤ◌, nat_abs, map, true, false, ◌&&◌, cond, eqb, List, [], ◌∷◌, length, drop, Option, Some, None, is_some, ℤ, pos, negsuc, refl, sym, ap, subst, ◌∙◌, arith, inl, inr}
+use Rattle.std.proofs.Common.{◌≡◌, ℕ, ◌≤◌, ◌≤ℤ◌, nat_abs, map, true, false, cond, List, [], ◌∷◌, drop, Option, Some, None, is_some, ℤ, pos, negsuc, refl, sym, ap, subst, ◌∙◌, arith, inl, inr}
 use Rattle.std.specs.Option.{option_map_or}
 use Rattle.std.specs.Prelude.{int_le}
 use Rattle.std.specs.Str.{bytes_eq}
@@ -15,7 +15,7 @@ use Rattle.sc_line.specs.Lines.{Line, Field, fields, spaced, number_of, count_li
 use Rattle.sc_line.specs.Faults.{NumberRange, between, are_numbers, are_in_range, numbers_fault, literal_fault, is_named, named_fault, numbers_line_fault}
 use Rattle.sc_line.specs.Formats.{IsLineKind, IsCountInRange}
 use Rattle.sc_line.specs.Forms.{Tells, count_kind}
-use Rattle.sc_line.proofs.LineLaws.{fields-spaced, lacks-spelling, number_of-spelling, number_of_is, same_bytes, named_is, line_from_fields, in_range_test}
+use Rattle.sc_line.proofs.LineLaws.{fields-spaced, lacks-spelling, number_of-spelling, number_of_is, same_bytes, named_is, line_from_fields}
 
 -- ---- ranges of natural numbers
 

@@ -1,5 +1,5 @@
--- What a line does to what is due of two parts, of one line, of many.
-use Rattle.std.proofs.Common.{◌≡◌, ℕ, zero, suc, ◌+◌, ◌-◌, ◌<◌, ◌≤◌, Bool, true, false, ◌&&◌, leb, List, [], ◌∷◌, ◌++◌, length, Option, Some, None, is_some, refl, sym, ap, subst, ◌∙◌, arith, inl, inr}
+-- What a line does to what is due of many lines; two parts, and a format and others behind it.
+use Rattle.std.proofs.Common.{◌≡◌, ℕ, suc, ◌+◌, ◌-◌, ◌<◌, ◌≤◌, Bool, true, false, ◌&&◌, leb, List, [], ◌∷◌, ◌++◌, length, Option, Some, None, refl, sym, ap, subst, ◌∙◌, arith, inl, inr}
 use Rattle.std.proofs.lemmas.Bool.{cases_lt, leb-true, leb-false, le-leb, lt-leb, false≢true}
 use Rattle.std.proofs.lemmas.List.{length_push}
 use Rattle.std.proofs.lemmas.Option.{none-some}
@@ -8,8 +8,7 @@ use Rattle.sc_line.specs.declared.fault.LineFault.{LineFault}
 use Rattle.sc_line.specs.LineFaults.{IsFault}
 use Rattle.sc_line.specs.Lines.{Line}
 use Rattle.sc_line.specs.Formats.{Format, told, a_line, is_told, after_line, fault_due, Steps}
-use Rattle.sc_line.specs.Forms.{LineKind, Tells, literal_due, one_due, more_due, many_due, counted_from, count_kind, Both, and_also, and_then, both_due}
-use Rattle.sc_line.proofs.NumberLaws.{good_literal}
+use Rattle.sc_line.specs.Forms.{LineKind, Tells, more_due, many_due, counted_from, and_also, and_then, both_due}
 
 -- ---- two parts
 
@@ -19,56 +18,11 @@ module _ {A B : Type 0} where
   whole_both (told x) (a_line fault rest) = refl
   whole_both (a_line fault rest) g = refl
 
-  pub first_due : (f : Format A) (g : Format B) → is_told f ≡ false → is_told (both_due f (λ x. g)) ≡ false
-  first_due f g h = whole_both f g ∙ ap (λ (b : Bool). b && is_told g) h
-
   pub second_due : (f : Format A) (g : Format B) → is_told f ≡ true → is_told (both_due f (λ x. g)) ≡ is_told g
   second_due f g h = whole_both f g ∙ ap (λ (b : Bool). b && is_told g) h
 
-  pub steps_first : (f f' : Format A) (g : Format B) (line : Line) → Steps f f' line → Steps (both_due f (λ x. g)) (both_due f' (λ x. g)) line
-  steps_first (told x) f' g line s = absurd (none-some _ (sym s.good))
-  steps_first (a_line fault rest) f' g line s = record { good = s.good; next = ap (λ (h : Format A). both_due h (λ x. g)) s.next }
-
-  pub fault_first : (f : Format A) (g : Format B) (line : Line) (e : LineFault) → is_told f ≡ false → IsFault (fault_due f line) e → IsFault (fault_due (both_due f (λ x. g)) line) e
-  fault_first (told x) g line e h bad = absurd (false≢true (sym h))
-  fault_first (a_line fault rest) g line e h bad = bad
-
-  steps_told : (x : A) (g g' : Format B) (line : Line) → Steps g g' line → Steps (both_due (told x) (λ z. g)) (both_due (told x) (λ z. g')) line
-  steps_told x (told y) g' line s = absurd (none-some _ (sym s.good))
-  steps_told x (a_line fault rest) g' line s = record { good = s.good; next = ap (λ (h : Format B). both_due (told x) (λ z. h)) s.next }
-
-  pub steps_second : (f : Format A) (g g' : Format B) (line : Line) → is_told f ≡ true → Steps g g' line → Steps (both_due f (λ x. g)) (both_due f (λ x. g')) line
-  steps_second (told x) g g' line h s = steps_told x g g' line s
-  steps_second (a_line fault rest) g g' line h s = absurd (false≢true h)
-
-  pub fault_second : (f : Format A) (g : Format B) (line : Line) (e : LineFault) → is_told f ≡ true → is_told g ≡ false → IsFault (fault_due g line) e → IsFault (fault_due (both_due f (λ x. g)) line) e
-  fault_second (told x) (told y) line e h k bad = absurd (false≢true (sym k))
-  fault_second (told x) (a_line fault rest) line e h k bad = bad
-  fault_second (a_line fault rest) g line e h k bad = absurd (false≢true h)
-
   pub told_both : (f : Format A) (g : Format B) (x : A) (y : B) → f ≡ told x → g ≡ told y → both_due f (λ z. g) ≡ told (and_also x y)
   told_both f g x y e d = λ i. both_due (e i) (λ z. d i)
-
--- ---- a line that is due word by word
-
-pub literal_step : (text line : Line) (read : Bool) → is_told (literal_due text read) ≡ false → line ≡ text → Steps (literal_due text read) (literal_due text true) line
-literal_step text line true h e = absurd (false≢true (sym h))
-literal_step text line false h e = record { good = ap (λ (l : Line). fault_due (literal_due text false) l) e ∙ good_literal text; next = refl }
-
--- ---- one line
-
-module _ {A : Type 0} (kind : LineKind A) where
-  pub one_steps : (value : Option A) (line : Line) (x : A) → is_told (one_due kind value) ≡ false → Tells kind line x → Steps (one_due kind value) (one_due kind (Some x)) line
-  one_steps None line x h t = record { good = t.good; next = ap told (sym t.value_is) }
-  one_steps (Some y) line x h t = absurd (false≢true (sym h))
-
-  pub one_fault : (value : Option A) (line : Line) (e : LineFault) → is_told (one_due kind value) ≡ false → IsFault (kind.fault line) e → IsFault (fault_due (one_due kind value) line) e
-  one_fault None line e h bad = bad
-  one_fault (Some y) line e h bad = absurd (false≢true (sym h))
-
-  pub one_whole : (value : Option A) → is_some value ≡ is_told (one_due kind value)
-  one_whole None = refl
-  one_whole (Some x) = refl
 
 -- ---- so many lines
 
@@ -108,14 +62,6 @@ module _ {A : Type 0} (kind : List A → LineKind A) where
 -- ---- a count, and as many lines
 
 module _ {A : Type 0} (name : List ℕ) (most : ℕ) (kind : List A → LineKind A) where
-  pub count_steps : (count : Option ℕ) (xs : List A) (n : ℕ) (line : Line) → count ≡ None → Tells (count_kind name 0 most) line n → Steps (counted_from name most kind count xs) (counted_from name most kind (Some n) xs) line
-  count_steps None xs n line e t = record { good = t.good; next = ap (λ (k : ℕ). many_due kind k xs) (sym t.value_is) }
-  count_steps (Some k) xs n line e t = absurd (none-some k (sym e))
-
-  pub count_fault : (count : Option ℕ) (xs : List A) (line : Line) (e : LineFault) → count ≡ None → IsFault ((count_kind name 0 most).fault line) e → IsFault (fault_due (counted_from name most kind count xs) line) e
-  count_fault None xs line e none bad = bad
-  count_fault (Some k) xs line e none bad = absurd (none-some k (sym none))
-
   pub item_steps : (count : Option ℕ) (n : ℕ) (xs ys : List A) (line : Line) (x : A) → count ≡ Some n → is_told (counted_from name most kind count xs) ≡ false → ys ≡ xs ++ x ∷ [] → Tells (kind xs) line x
       → Steps (counted_from name most kind count xs) (counted_from name most kind count ys) line
   item_steps None n xs ys line x e h new t = absurd (none-some n e)
@@ -124,12 +70,6 @@ module _ {A : Type 0} (name : List ℕ) (most : ℕ) (kind : List A → LineKind
   pub item_fault : (count : Option ℕ) (n : ℕ) (xs : List A) (line : Line) (e : LineFault) → count ≡ Some n → is_told (counted_from name most kind count xs) ≡ false → IsFault ((kind xs).fault line) e → IsFault (fault_due (counted_from name most kind count xs) line) e
   item_fault None n xs line e is h bad = absurd (none-some n is)
   item_fault (Some k) n xs line e is h bad = many_fault kind k xs line e h bad
-
-  pub uncounted : (count : Option ℕ) (xs : List A) → count ≡ None → is_told (counted_from name most kind count xs) ≡ false
-  uncounted count xs e = ap (λ (o : Option ℕ). is_told (counted_from name most kind o xs)) e
-
-  pub counted_whole : (count : Option ℕ) (n : ℕ) (xs : List A) → count ≡ Some n → is_told (counted_from name most kind count xs) ≡ leb n (length xs)
-  counted_whole count n xs e = ap (λ (o : Option ℕ). is_told (counted_from name most kind o xs)) e ∙ sym (many_whole kind n xs)
 
   pub counted_told : (count : Option ℕ) (xs : List A) → is_told (counted_from name most kind count xs) ≡ true → counted_from name most kind count xs ≡ told xs
   counted_told None xs h = absurd (false≢true h)

@@ -4,7 +4,7 @@ use Rattle.sc_line.specs.declared.fault.Kind.{Kind}
 use Rattle.sc_line.specs.declared.fault.TextFault.{TextFault}
 use Rattle.sc_line.specs.Lines.{Line, text_of, count_line, count_in, AllLack}
 use Rattle.sc_line.specs.Faults.{Plan, between, literal_fault, numbers_line_fault, IsFaultOf}
-use Rattle.sc_line.specs.Formats.{Format, told, a_line, plan_of, Reads, IsShort}
+use Rattle.sc_line.specs.Formats.{Format, told, a_line, Reads, IsShort}
 
 -- a kind of lines: the line of a value, the fault of a line, and the value that a line tells
 pub record LineKind (A : Type 0) : Type 0 where
@@ -117,13 +117,6 @@ pub record IsLawful {V : Type 0} (lines : V → List Line) (due : Format V) (InR
   pub short : IsShort most due
 
 -- ---- texts
-
--- the text of a value, and what is due at each line of a text of which nothing was read
-abbrev pub form_text : {P V : Type 0} → Form P V → V → List ℕ
-form_text f v = text_of (f.lines v)
-
-abbrev pub form_plan : {P V : Type 0} → Form P V → P → Plan
-form_plan f nothing = plan_of (f.due nothing)
 
 -- the lines of a text tell this value
 pub record IsToldBy {V : Type 0} (due : Format V) (text : List ℕ) (v : V) : Type 0 where
