@@ -15,6 +15,7 @@ use Rattle.sc_chain.specs.Faults.{IsSmallChain}
 use Rattle.sc_chain.specs.declared.limits.TheConstants.{GENERATORS}
 use Rattle.sc_chain.proofs.OneFault.{generators_of}
 
+-- the total of the words so far, with that of one word more
 pub next_total : (c : Chain) (g n : ℕ) (t s : ℤ) → IsTotalSoFar c g n t → s ≡ pos (weight c n) *ℤ total g (word c n) →
     neg_ℤ (pos (2 ^ 38)) ≤ℤ s → s ≤ℤ pos (2 ^ 38) → IsTotalSoFar c g (n + 1) (t +ℤ s)
 next_total c g n t s p e low high =
@@ -40,6 +41,7 @@ total_beyond g w h =
     let negative : count_by (is_negative g) w ≡ 0 = none_passes (is_negative g) w (λ k l. other_number (get_or w k no_letter).number g (get_or w k no_letter).inverse (h k l)) in
     rw (positive, negative)
 
+-- a generator beyond all letters of a chain has the total 0
 pub chain_total_beyond : (c : Chain) (g : ℕ) → ((w k : ℕ) → w < length c → k < length (word c w) → (get_or (word c w) k no_letter).number < g) → chain_total g c ≡ pos 0
 chain_total_beyond [] g h = refl
 chain_total_beyond (u ∷ c) g h =

@@ -15,6 +15,7 @@ use Rattle.sc_chain.specs.ChainText.{Field, is_digit, digits_number, size_of, co
 use Rattle.sc_chain.specs.Spelling.{letter_of, word_of}
 use Rattle.sc_chain.specs.declared.limits.TheConstants.{MAX_COEFFICIENT, COEFFICIENT_DIGITS}
 
+-- each byte of a field of digits is a digit
 pub digit_at : (ds : Field) (i : ℕ) → i < length ds → list_all is_digit ds ≡ true → is_digit (get_or ds i 0) ≡ true
 digit_at ds i h all = elim (cases_Bool (is_digit (get_or ds i 0))) [
   | inl digit ↦ digit
@@ -29,10 +30,11 @@ pub record IsDigitByte (b : ℕ) : Type 0 where
 pub digit_byte : (b : ℕ) → is_digit b ≡ true → IsDigitByte b
 digit_byte b h = let both = and_parts _ _ h in record { low = leb-true _ _ both.0; high = leb-true _ _ both.1 }
 
--- the number of one digit more
+-- the number that a digit writes
 abbrev value : ℕ → ℕ
 value b = b - 48
 
+-- ten times the number that the digits so far write, plus the next digit, is what one digit more writes
 pub next_number : (ds : Field) (i n d : ℕ) → i < length ds → n ≡ digits_number (take i ds) → d ≡ get_or ds i 0 - 48 → n * 10 + d ≡ digits_number (take (i + 1) ds)
 next_number ds i n d h e f =
     let inside : i < length (map value ds) = simp length-map h in
@@ -55,6 +57,7 @@ pub number_no_word : (f : Field) → begins_number f ≡ true → word_of f ≡ 
 number_no_word [] h = absurd (false≢true h)
 number_no_word (b ∷ bs) h = rw (number_no_letter b h) refl
 
+-- a field with a byte that is no digit writes no size
 pub size_of_others : (f : Field) → list_all is_digit f ≡ false → size_of f ≡ None
 size_of_others f h = rw (and_left _ (leb (digits_number f) MAX_COEFFICIENT) (and_right (leb 1 (length f) && leb (length f) COEFFICIENT_DIGITS) _ h)) refl
 
@@ -99,6 +102,7 @@ small_neg (Some n) z h e =
     let small : n ≤ MAX_COEFFICIENT = h n refl in
     subst IsSmall (same_Some (neg_ℤ (pos n)) z e) (record { low = omega (arith, ints); high = omega (arith, ints) })
 
+-- the coefficient that a field writes is small
 pub coefficient_small : (f : Field) (z : ℤ) → coefficient_of f ≡ Some z → IsSmall z
 coefficient_small [] z h = absurd (none-some z h)
 coefficient_small (b ∷ f) z h =

@@ -12,6 +12,7 @@ use Rattle.sc_chain.specs.Decision.{last_word, behind_coefficient, decision}
 use Rattle.sc_chain.proofs.SpellingLaws.{are_letters, word_from_letters, word_from_others}
 use Rattle.sc_chain.proofs.CoefficientLaws.{number_no_word, other_no_coefficient}
 
+-- where a word is due: a byte that is no letter, a field behind the word, or the word as the last field
 pub last_word_letter : (z : ℤ) (bs : Field) (fs : List Field) → are_letters bs ≡ false → last_word z (word_of bs) fs ≡ Err Letter
 last_word_letter z bs fs h = rw (word_from_others bs h) refl
 
@@ -60,6 +61,7 @@ word_agrees f [] h = alone (word_of f)
 word_agrees f (g ∷ []) h = rw h (followed (pos 1) (word_of f) g [])
 word_agrees f (g ∷ k ∷ fs) h = followed (pos 1) (word_of f) g (k ∷ fs)
 
+-- the decision gives what the case of the fields gives, or their first kind where they have none
 pub decision_agrees : (f : Field) (fs : List Field) → Agrees (fields_case (f ∷ fs)) (fields_kind (f ∷ fs)) (decision f fs)
 decision_agrees f fs = elim (cases_Bool (begins_number f)) [
   | inl number ↦ rw number (number_agrees f fs (number_no_word f number))
@@ -68,6 +70,7 @@ decision_agrees f fs = elim (cases_Bool (begins_number f)) [
 
 -- ---- a line whose first field begins no comment
 
+-- the line has no case, and its fields have this kind first
 pub record HasNoCase (line : Line) (kind : Kind) : Type 0 where
   pub no_case : line_case line ≡ None
   pub kind_is : fields_kind (line_fields line) ≡ kind
@@ -77,6 +80,7 @@ case_err line f fs k e c d =
     let both : Agrees (fields_case (f ∷ fs)) (fields_kind (f ∷ fs)) (Err k) = subst (Agrees (fields_case (f ∷ fs)) (fields_kind (f ∷ fs))) d (decision_agrees f fs) in
     record { no_case = rw (e, c) both.0; kind_is = rw e both.1 }
 
+-- a line that the decision refuses has no case; its kind is the one decided, or NotAscii for a byte over 127
 pub case_of_ascii : (line : Line) (f : Field) (fs : List Field) (k : Kind) → line_fields line ≡ f ∷ fs → is_comment (f ∷ fs) ≡ false → decision f fs ≡ Err k →
     is_ascii line ≡ true → (line_case line ≡ None) × (k ≡ line_kind line)
 case_of_ascii line f fs k e c d a = let p : HasNoCase line k = case_err line f fs k e c d in (p.no_case, rw a (sym p.kind_is))

@@ -28,6 +28,7 @@ entry_at c places firsts t i h =
     ∙ ap (λ (x : Letter). place_between (first c v) (first c (suc v)) v x (first c v + k)) (sym same)
     ∙ ap (λ (n : ℕ). place_between (first c v) (first c (suc v)) v (letter c i) n) at
 
+-- the tables of all words of a chain are the tables of the chain
 pub whole : (c : Chain) (places : List Place) (firsts : List ℕ) → AreGoodBelow c (length c) → AreTablesBelow c (length c) places firsts →
     AreTables c places firsts
 whole c places firsts g t =
@@ -73,6 +74,7 @@ place_next c n old new h len below a w k lw lk = elim (cases_lt w n) [
       subst P at here lk)
 ]
 
+-- the tables of the first n words, with the entries of the next word, are those of n + 1 words
 pub next_word : (c : Chain) (n : ℕ) (old new : List Place) (firsts : List ℕ) → n < length c → AreTablesBelow c n old firsts →
     AppendsBelow old new (word c n) n (length (word c n)) → AreTablesBelow c (n + 1) new (firsts ++ length old ∷ [])
 next_word c n old new firsts h t a =

@@ -20,6 +20,7 @@ unmarked p = elim (cases_lt p MAX_POSITIONS) [
   | inr h ↦ get_or_past (replicate MAX_POSITIONS false) p false (omega (arith, length-replicate MAX_POSITIONS false))
 ]
 
+-- before the first position none is marked
 pub no_marks : (walk : List ℕ) → AreMarks walk 0 (replicate MAX_POSITIONS false)
 no_marks walk = record {
   len = length-replicate MAX_POSITIONS false;
@@ -31,15 +32,18 @@ no_marks walk = record {
 marked_twice : (walk : List ℕ) (n : ℕ) → n < length walk → (i : ℕ) × (i < n) × (get_or walk i 0 ≡ get_or walk n 0) → has_no_repeat walk ≡ true → ⊥
 marked_twice walk n h (i, less, e) simple = apart walk i n (simple_from walk simple) less h e
 
+-- a walk whose next position is marked has a repeat
 pub repeats : (walk : List ℕ) (n : ℕ) (seen : List Bool) → AreMarks walk n seen → n < length walk → get_or seen (get_or walk n 0) false ≡ true → has_no_repeat walk ≡ false
 repeats walk n seen m h e = false_from_ne_true (has_no_repeat walk) (marked_twice walk n h (m.from (get_or walk n 0) e))
 
+-- a walk that was marked to its end has no repeat
 pub none_repeats : (walk : List ℕ) (n : ℕ) (seen : List Bool) → AreMarks walk n seen → length walk ≤ n → has_no_repeat walk ≡ true
 none_repeats walk n seen m h = simple_test walk (no_repeat_from walk (λ i j less inside. m.apart i j less (omega arith)))
 
 later : (walk : List ℕ) (n p : ℕ) → (i : ℕ) × (i < n) × (get_or walk i 0 ≡ p) → (i : ℕ) × (i < n + 1) × (get_or walk i 0 ≡ p)
 later walk n p (i, less, e) = (i, omega arith, e)
 
+-- the next position is marked, if it is not yet
 pub mark_next : (walk : List ℕ) (n : ℕ) (seen : List Bool) → AreMarks walk n seen → get_or walk n 0 < MAX_POSITIONS → get_or seen (get_or walk n 0) false ≡ false →
     AreMarks walk (n + 1) (set seen (get_or walk n 0) true)
 mark_next walk n seen m below new =

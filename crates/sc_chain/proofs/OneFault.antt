@@ -14,6 +14,7 @@ use Rattle.sc_chain.specs.declared.limits.TheConstants.{GENERATORS}
 use Rattle.sc_theory.proofs.ChainLaws.{Place as Placed, place, place_inside, letter_place, first-suc}
 use Rattle.sc_chain.proofs.Firsts.{nonempty-length}
 
+-- a word that is reduced and has a letter is good
 pub good_word : (w : Word) → length w ≢ 0 → IsReduced w → IsGoodWord w
 good_word w h r = record { nonempty = λ e. h (ap length e); reduced = r }
 
@@ -55,6 +56,7 @@ flaw_same c v j w k p q =
     let here : j ≡ k = place_same (word c w) j k (subst (λ (n : ℕ). IsLeastCancelling (word c n) j) same p.flaw) q.flaw in
     cc
 
+-- a list of words has at most one fault
 pub same_fault : (c : Chain) (e f : ChainFault) → IsFaultOf c e → IsFaultOf c f → e ≡ f
 same_fault c (EmptyWord v) (EmptyWord w) p q = ap EmptyWord (first_same c v w p.before q.before (empty_bad c v p) (empty_bad c w q))
 same_fault c (EmptyWord v) (NotReduced w k) p q = absurd (empty_flaw c v w k p q)
@@ -84,6 +86,7 @@ same_fault c (Heavy m) (Heavy n) p q = cc
 same_fault c Memory f p q = absurd p
 same_fault c e Memory p q = absurd q
 
+-- an accepted list of words has no fault
 pub accepted_faultless : (c : Chain) (e : ChainFault) → IsAccepted c → IsFaultOf c e → ⊥
 accepted_faultless c (EmptyWord w) a q = empty_bad c w q (a.good w q.in_range)
 accepted_faultless c (NotReduced w k) a q = flaw_bad c w k q (a.good w q.in_range)
@@ -101,6 +104,7 @@ generator_at c g i h =
     let same : letter c i ≡ get_or (word c (word_of c i)) k no_letter = ap (letter c) (sym at) ∙ letter_place c (word_of c i) k inside in
     rw same (g (word_of c i) k p.in_chain inside)
 
+-- an accepted list of words over the generators is a chain within the limits
 pub accepted_small : (c : Chain) → IsAccepted c → AreGenerators c → IsSmallChain c
 accepted_small c a g =
     record {
@@ -131,6 +135,7 @@ words-le c (suc n) h g =
     let one : 0 < length (word c n) = nonempty-length (word c n) (g n (omega arith)).nonempty in
     omega (arith, first-suc c n)
 
+-- the letters of a chain within the limits are those of the generators
 pub generators_of : (c : Chain) → IsSmallChain c → AreGenerators c
 generators_of c s w k hw hk = rw (← letter_place c w k hk) (s.generators (first c w + k) (place_inside c w k hk))
 

@@ -27,6 +27,7 @@ pair_test c p q x y b h ex ey e =
     ap (λ (t : Bool). t && is_inverse (letter c p) (letter c q)) (lt-ltb p q h)
     ∙ sym (e ∙ ap (λ (z : Letter). is_inverse z y) ex ∙ ap (is_inverse (letter c p)) ey)
 
+-- where the first number is not less, they are no pair
 pub pair_test_above : (c : Chain) (p q : ℕ) → q ≤ p → is_pair c p q ≡ false
 pair_test_above c p q h = and_left (ltb p q) (is_inverse (letter c p) (letter c q)) (le-ltb p q h)
 
@@ -46,6 +47,7 @@ inverse_at c k h = every (λ a. IsInversePair c a.0 a.1) (pairs c) k (0, 0) (all
 pub pair_once : (c : Chain) (k : ℕ) → k < length (pairs c) → place_of (pairs c) (get_or (pairs c) k (0, 0)).0 (get_or (pairs c) k (0, 0)).1 ≡ k
 pair_once c k h = once (pairs c) k (0, 0) (apart-firsts (is_pair c) (positions c) 0 (positions c)) h
 
+-- the pairs of a chain are ordered, of numbers below that of its positions, and each stands once
 pub pairs_below : (c : Chain) → ArePairsBelow (pairs c) (positions c)
 pairs_below c = record {
   ordered = λ k h. (inverse_at c k h).ordered;
@@ -53,6 +55,7 @@ pairs_below c = record {
   once = pair_once c;
 }
 
+-- two positions are in the list of pairs exactly where they are an inverse pair
 pub pair_found : (c : Chain) (p q : ℕ) → IsInversePair c p q → IsIn (pairs c) p q
 pair_found c p q pair =
     in-firsts (is_pair c) (positions c) 0 (positions c) p q (omega arith) (omega (arith, pair.ordered, pair.in_range)) pair.in_range
@@ -65,6 +68,7 @@ pair_of_place c p q h =
 
 -- ---- rows
 
+-- the place of a pair that is in the list, and none for one that is not
 pub place_in-yes : (ps : List (ℕ × ℕ)) (p q : ℕ) → IsIn ps p q → place_in ps p q ≡ Some (place_of ps p q)
 place_in-yes ps p q h = cond-true (ltb (place_of ps p q) (length ps)) (Some (place_of ps p q)) None (lt-ltb (place_of ps p q) (length ps) h)
 
@@ -74,6 +78,7 @@ place_in-no ps p q h = cond-false (ltb (place_of ps p q) (length ps)) (Some (pla
 abbrev signed : Option ℕ → Option ℕ → Option (ℕ × Sign)
 signed here there = option_or (option_map (λ k. (k, Plus)) here) (option_map (λ k. (k, Minus)) there)
 
+-- the row of p, q: the place of p, q with Plus, else that of q, p with Minus, else none
 pub row-plus : (ps : List (ℕ × ℕ)) (p q : ℕ) → IsIn ps p q → row_in ps p q ≡ Some (place_of ps p q, Plus)
 row-plus ps p q h = ap (λ (o : Option ℕ). signed o (place_in ps q p)) (place_in-yes ps p q h)
 
@@ -121,6 +126,7 @@ plus_from c p q k (plus h r) e = pair_of_place c p q h
 plus_from c p q k (minus h i r) e = absurd (not_plus (row_in (pairs c) p q) (place_of (pairs c) q p) k r e)
 plus_from c p q k (none h i r) e = absurd (not_none (row_in (pairs c) p q) (k, Plus) r e)
 
+-- a row with Plus is that of an inverse pair p, q, and one with Minus that of q, p
 pub plus_is_pair : (c : Chain) (p q k : ℕ) → row_in (pairs c) p q ≡ Some (k, Plus) → IsInversePair c p q
 plus_is_pair c p q k e = plus_from c p q k (row (pairs c) p q) e
 
@@ -140,16 +146,15 @@ row_of_pair c k h =
     let at : place_of (pairs c) p q ≡ k = pair_once c k h in
     row-plus (pairs c) p q (omega arith) ∙ ap (λ (j : ℕ). Some (j, Plus)) at
 
--- a row is a place in the list
 below_from : (ps : List (ℕ × ℕ)) (p q : ℕ) (x : ℕ × Sign) → Row ps p q → row_in ps p q ≡ Some x → x.0 < length ps
 below_from ps p q x (plus h r) e = let at : place_of ps p q ≡ x.0 = ap (λ (y : ℕ × Sign). y.0) (some_is _ _ (sym r ∙ e)) in omega arith
 below_from ps p q x (minus h i r) e = let at : place_of ps q p ≡ x.0 = ap (λ (y : ℕ × Sign). y.0) (some_is _ _ (sym r ∙ e)) in omega arith
 below_from ps p q x (none h i r) e = absurd (not_none (row_in ps p q) x r e)
 
+-- a row is a place in the list
 pub row_below : (ps : List (ℕ × ℕ)) (p q : ℕ) (x : ℕ × Sign) → row_in ps p q ≡ Some x → x.0 < length ps
 row_below ps p q x e = below_from ps p q x (row ps p q) e
 
--- there is a row exactly where the letters are inverse
 other_way : (c : Chain) (p q : ℕ) → letter c q ≡ inverse_letter (letter c p) → letter c p ≡ inverse_letter (letter c q)
 other_way c p q e = sym (inverse_letter-inverse_letter (letter c p)) ∙ ap inverse_letter (sym e)
 
@@ -171,6 +176,7 @@ row_from_inverse c p q hp hq e (none h i r) = elim (cases_order p q) [
       absurd (omega arith))
 ]
 
+-- there is a row exactly where the letters are inverse
 pub row_where_inverse : (c : Chain) (p q : ℕ) → p < positions c → q < positions c → IsSome (row_in (pairs c) p q) ↔ (letter c q ≡ inverse_letter (letter c p))
 row_where_inverse c p q hp hq = (inverse_from c p q (row (pairs c) p q), λ e. row_from_inverse c p q hp hq e (row (pairs c) p q))
 

@@ -11,6 +11,7 @@ suc_is n = omega arith
 abbrev pub same : ℕ × ℕ → ℕ → ℕ → Bool
 same a p q = eqb a.0 p && eqb a.1 q
 
+-- only the pair of p and q passes the test, and it does
 pub same_itself : (p q : ℕ) → same (p, q) p q ≡ true
 same_itself p q = and_from (eqb p p) (eqb q q) (eq-eqb p p refl) (eq-eqb q q refl)
 
@@ -19,6 +20,7 @@ same_is a p q h =
     let both = and_parts (eqb a.0 p) (eqb a.1 q) h in
     ap (λ (x : ℕ). (x, a.1)) (eqb-true a.0 p both.0) ∙ ap (λ (y : ℕ). (p, y)) (eqb-true a.1 q both.1)
 
+-- the place in a list whose first pair is this one, and in a list whose first pair is another
 pub place_here : (a : ℕ × ℕ) (rest : List (ℕ × ℕ)) (p q : ℕ) → same a p q ≡ true → place_of (a ∷ rest) p q ≡ 0
 place_here a rest p q e = cond-true (same a p q) 0 (suc (place_of rest p q)) e
 
@@ -32,6 +34,7 @@ place-le (a ∷ rest) p q = elim (cases_Bool (same a p q)) [
   | inr e ↦ omega (arith, place_next a rest p q e, place-le rest p q)
 ]
 
+-- at the place of a pair stands the pair
 pub place_at : (ps : List (ℕ × ℕ)) (p q : ℕ) (d : ℕ × ℕ) → place_of ps p q < length ps → get_or ps (place_of ps p q) d ≡ (p, q)
 place_at [] p q d h = absurd (omega arith)
 place_at (a ∷ rest) p q d h = elim (cases_Bool (same a p q)) [
@@ -41,6 +44,7 @@ place_at (a ∷ rest) p q d h = elim (cases_Bool (same a p q)) [
       ap (λ (k : ℕ). get_or (a ∷ rest) k d) next ∙ place_at rest p q d (omega arith))
 ]
 
+-- the place in two lists, one behind the other: that in the first, or, if it is not there, that in the second
 pub place-append_left : (xs ys : List (ℕ × ℕ)) (p q : ℕ) → place_of xs p q < length xs → place_of (xs ++ ys) p q ≡ place_of xs p q
 place-append_left [] ys p q h = absurd (omega arith)
 place-append_left (a ∷ rest) ys p q h = elim (cases_Bool (same a p q)) [
@@ -61,6 +65,7 @@ place-append_right (a ∷ rest) ys p q h = elim (cases_Bool (same a p q)) [
 
 -- ---- a fact of each pair, and pairs that all differ
 
+-- a fact of all pairs of a list is one of the pair at an index, and one of two such lists together
 pub every : (P : ℕ × ℕ → Type 0) (xs : List (ℕ × ℕ)) (k : ℕ) (d : ℕ × ℕ) → AllByRecursion P xs → k < length xs → P (get_or xs k d)
 every P [] k d all h = absurd (omega arith)
 every P (x ∷ xs) zero d all h = all.0
@@ -70,10 +75,12 @@ pub all-append : (P : ℕ × ℕ → Type 0) (xs ys : List (ℕ × ℕ)) → All
 all-append P [] ys h k = k
 all-append P (x ∷ xs) ys h k = (h.0, all-append P xs ys h.1 k)
 
+-- no pair of the list stands twice
 abbrev pub AreApart : List (ℕ × ℕ) → Type 0
 AreApart [] = Unit {0}
 AreApart (a ∷ rest) = AllByRecursion (λ b. same a b.0 b.1 ≡ false) rest × AreApart rest
 
+-- in a list whose pairs all differ, the place of the pair at an index is the index
 pub once : (ps : List (ℕ × ℕ)) (k : ℕ) (d : ℕ × ℕ) → AreApart ps → k < length ps → place_of ps (get_or ps k d).0 (get_or ps k d).1 ≡ k
 once [] k d apart h = absurd (omega arith)
 once (a ∷ rest) zero d apart h = place_here a rest a.0 a.1 (same_itself a.0 a.1)
@@ -90,6 +97,7 @@ apart-append (x ∷ xs) ys a b h = (all-append (λ y. same x y.0 y.1 ≡ false) 
 abbrev pub seconds : ℕ → (ℕ → Bool) → ℕ → ℕ → List (ℕ × ℕ)
 seconds x test b m = map (λ q. (x, q)) (filter test (range_with_len b m))
 
+-- a fact of x with each number that passes the test is a fact of all these pairs
 pub all-seconds : (P : ℕ × ℕ → Type 0) (x : ℕ) (test : ℕ → Bool) (b m : ℕ) → ((q : ℕ) → b ≤ q → q < b + m → test q ≡ true → P (x, q)) → AllByRecursion P (seconds x test b m)
 all-seconds P x test b zero f = tt
 all-seconds P x test b (suc m) f =
@@ -99,6 +107,7 @@ all-seconds P x test b (suc m) f =
       | inr e ↦ rw e rest
     ]
 
+-- the first number is taken where it passes the test, and left out where it does not
 pub seconds-yes : (x : ℕ) (test : ℕ → Bool) (b m : ℕ) → test b ≡ true → seconds x test b (suc m) ≡ (x, b) ∷ seconds x test (b + 1) m
 seconds-yes x test b m e =
     ap (map (λ (q : ℕ). (x, q))) (cond-true (test b) (b ∷ filter test (range_with_len (b + 1) m)) (filter test (range_with_len (b + 1) m)) e)
@@ -112,6 +121,7 @@ pub seconds-none : (x : ℕ) (test : ℕ → Bool) (b m : ℕ) → ((q : ℕ) �
 seconds-none x test b zero f = refl
 seconds-none x test b (suc m) f = seconds-no x test b m (f b (omega arith) (omega arith)) ∙ seconds-none x test (b + 1) m (λ q h k. f q (omega arith) (omega arith))
 
+-- the pair where the test passed, and nothing where it did not
 abbrev pub one_if : Bool → ℕ × ℕ → List (ℕ × ℕ)
 one_if true a = a ∷ []
 one_if false a = []
@@ -128,6 +138,7 @@ seconds_more x test b (suc m) j e =
       | inr t ↦ seconds-no x test b (suc m) t ∙ rest ∙ ap (λ (ps : List (ℕ × ℕ)). ps ++ one_if (test j) (x, j)) (sym (seconds-no x test b m t))
     ]
 
+-- one number more: its pair stands at the end where it passes the test, and nothing changes where it does not
 pub seconds-kept : (xs : List (ℕ × ℕ)) (x : ℕ) (test : ℕ → Bool) (n : ℕ) → test n ≡ true →
     (xs ++ seconds x test 0 n) ++ (x, n) ∷ [] ≡ xs ++ seconds x test 0 (n + 1)
 seconds-kept xs x test n e =
@@ -149,6 +160,7 @@ apart-seconds x test b (suc m) = elim (cases_Bool (test b)) [
 
 -- ---- where a pair stands
 
+-- the pair of p and q is in the list
 abbrev pub IsIn : List (ℕ × ℕ) → ℕ → ℕ → Type 0
 IsIn ps p q = place_of ps p q < length ps
 
@@ -161,6 +173,7 @@ in-next a rest p q h = elim (cases_Bool (same a p q)) [
   | inr e ↦ omega (arith, place_next a rest p q e)
 ]
 
+-- a pair that is in one of two lists is in both, one behind the other
 pub in-append_left : (xs ys : List (ℕ × ℕ)) (p q : ℕ) → IsIn xs p q → IsIn (xs ++ ys) p q
 in-append_left xs ys p q h = omega (arith, place-append_left xs ys p q h, length-append xs ys)
 
@@ -188,6 +201,7 @@ in-seconds x test b (suc m) q h k e = elim (cases_Bool (test b)) [
 abbrev pub all_seconds : (ℕ → ℕ → Bool) → ℕ → ℕ → ℕ → List (ℕ × ℕ)
 all_seconds test m a n = flat_map (λ x. seconds x (test x) 0 m) (range_with_len a n)
 
+-- a fact of each two numbers that pass the test is a fact of all these pairs
 pub all-firsts : (P : ℕ × ℕ → Type 0) (test : ℕ → ℕ → Bool) (m a n : ℕ) → ((x q : ℕ) → a ≤ x → x < a + n → q < m → test x q ≡ true → P (x, q)) →
     AllByRecursion P (all_seconds test m a n)
 all-firsts P test m a zero f = tt
@@ -196,6 +210,7 @@ all-firsts P test m a (suc n) f =
     (all-seconds P a (test a) 0 m (λ q h k e. f a q (omega arith) (omega arith) (omega arith) e))
     (all-firsts P test m (a + 1) n (λ x q h k l e. f x q (omega arith) (omega arith) l e))
 
+-- all these pairs differ
 pub apart-firsts : (test : ℕ → ℕ → Bool) (m a n : ℕ) → AreApart (all_seconds test m a n)
 apart-firsts test m a zero = tt
 apart-firsts test m a (suc n) =
@@ -203,6 +218,7 @@ apart-firsts test m a (suc n) =
     (all-seconds (λ x. AllByRecursion (λ y. same x y.0 y.1 ≡ false) (all_seconds test m (a + 1) n)) a (test a) 0 m
     (λ q h k e. all-firsts (λ y. same (a, q) y.0 y.1 ≡ false) test m (a + 1) n (λ x r i j l t. and_left (eqb a x) (eqb q r) (ne_eqb a x (λ s. omega arith)))))
 
+-- each two numbers in range that pass the test are among these pairs
 pub in-firsts : (test : ℕ → ℕ → Bool) (m a n p q : ℕ) → a ≤ p → p < a + n → q < m → test p q ≡ true → IsIn (all_seconds test m a n) p q
 in-firsts test m a zero p q h k l e = absurd (omega arith)
 in-firsts test m a (suc n) p q h k l e = elim (cases_eq a p) [
@@ -220,5 +236,6 @@ firsts_next test m a (suc n) j e =
     append_assoc (seconds a (test a) 0 m) (all_seconds test m (a + 1) n) (seconds j (test j) 0 m)
     ∙ ap (λ (ps : List (ℕ × ℕ)). seconds a (test a) 0 m ++ ps) (firsts_next test m (a + 1) n j (omega arith))
 
+-- one first number more, with its seconds
 pub firsts_more : (test : ℕ → ℕ → Bool) (m n : ℕ) → all_seconds test m 0 n ++ seconds n (test n) 0 m ≡ all_seconds test m 0 (n + 1)
 firsts_more test m n = firsts_next test m 0 n n (omega arith) ∙ ap (all_seconds test m 0) (suc_is n)

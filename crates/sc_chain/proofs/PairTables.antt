@@ -81,6 +81,7 @@ not_before ps n k are h =
       | inr i ↦ i
     ]
 
+-- the table of the first k pairs, with the place k written at the index of the next pair, is that of k + 1 pairs
 pub table_more : (ps : List (ℕ × ℕ)) (n k : ℕ) (table : List (Option ℕ)) → ArePairsBelow ps n → k < length ps → IsTableOf (take k ps) n table →
     IsTableOf (take (k + 1) ps) n (set table ((get_or ps k (0, 0)).0 * n + (get_or ps k (0, 0)).1) (Some k))
 table_more ps n k table are h t =

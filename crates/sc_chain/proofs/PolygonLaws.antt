@@ -29,6 +29,7 @@ step_test c i j s =
     (and_from (ltb i (positions c)) (ltb j (positions c)) (lt-ltb i (positions c) s.from) (lt-ltb j (positions c) s.to))
     (ap (is_inverse (letter c (succ c i))) s.inverse ∙ is_inverse-inverse_letter (letter c (succ c i)))
 
+-- exactly the steps pass the test
 pub steps_are_decided : (c : Chain) (i j : ℕ) → IsTrue (is_step c i j) ↔ IsStep c i j
 steps_are_decided c i j = (step_from c i j, step_test c i j)
 
@@ -48,6 +49,7 @@ closed_test : (c : Chain) (walk : List ℕ) → IsClosedWalk c walk → is_close
 closed_test c [] w = absurd w
 closed_test c (i ∷ js) w = back_test c i i js w
 
+-- exactly the closed walks pass the test
 pub walks_are_decided : (c : Chain) (walk : List ℕ) → IsTrue (is_closed_walk c walk) ↔ IsClosedWalk c walk
 walks_are_decided c walk = (closed_from c walk, closed_test c walk)
 
@@ -69,6 +71,7 @@ least_test : (walk : List ℕ) → IsFromLeast walk → is_from_least walk ≡ t
 least_test [] h = absurd h
 least_test (i ∷ js) h = all_test (λ j. i < j) (λ j. ltb i j) js (lt-ltb i) h
 
+-- exactly the walks without a repeat pass the test
 pub simple_from : (walk : List ℕ) → has_no_repeat walk ≡ true → HasNoRepeat walk
 simple_from [] h = tt
 simple_from (i ∷ js) h =
@@ -92,6 +95,7 @@ polygon_test c walk p =
     and_from (is_closed_walk c walk && is_from_least walk) (has_no_repeat walk)
     (and_from (is_closed_walk c walk) (is_from_least walk) (closed_test c walk p.closed) (least_test walk p.least)) (simple_test walk p.simple)
 
+-- exactly the polygons pass the test
 pub polygons_are_decided : (c : Chain) (walk : List ℕ) → IsTrue (is_polygon c walk) ↔ IsPolygon c walk
 polygons_are_decided c walk = (polygon_from c walk, polygon_test c walk)
 
@@ -103,6 +107,7 @@ back_inside c start i [] w (suc k) h = absurd (omega arith)
 back_inside c start i (j ∷ js) w zero h = w.0.from
 back_inside c start i (j ∷ js) w (suc k) h = back_inside c start j js w.1 k (omega arith)
 
+-- each number of a closed walk is a position of the chain
 pub walk_inside : (c : Chain) (walk : List ℕ) → IsClosedWalk c walk → (k : ℕ) → k < length walk → get_or walk k 0 < positions c
 walk_inside c [] w k h = absurd w
 walk_inside c (i ∷ js) w k h = back_inside c i i js w k h
@@ -112,6 +117,7 @@ every P [] k all h = absurd (omega arith)
 every P (x ∷ xs) zero all h = all.0
 every P (x ∷ xs) (suc k) all h = every P xs k all.1 (omega arith)
 
+-- the positions at any two places differ exactly where the walk has no repeat
 pub apart : (walk : List ℕ) (i j : ℕ) → HasNoRepeat walk → i < j → j < length walk → get_or walk i 0 ≢ get_or walk j 0
 apart [] i j simple less inside = absurd (omega arith)
 apart (x ∷ xs) i zero simple less inside = absurd (omega arith)
@@ -136,10 +142,12 @@ few_without_repeat walk n simple below = elim (cases_lt n (length walk)) [
   | inr few ↦ few
 ]
 
+-- what every polygon keeps, where its positions are below the limit
 pub small_walk : (c : Chain) (walk : List ℕ) → ((k : ℕ) → k < length walk → get_or walk k 0 < MAX_POSITIONS) → IsPolygon c walk → IsSmallWalk walk
 small_walk c walk below p =
     record { least = p.least; simple = p.simple; few = few_without_repeat walk MAX_POSITIONS p.simple below; in_range = below }
 
+-- where the test of a closed walk passes, its positions are below the limit
 pub closed_inside : (c : Chain) (walk : List ℕ) (b : Bool) → positions c ≤ MAX_POSITIONS → b ≡ is_closed_walk c walk →
     OnTrue b ((k : ℕ) → k < length walk → get_or walk k 0 < MAX_POSITIONS)
 closed_inside c walk b few e =
@@ -149,6 +157,7 @@ closed_inside c walk b few e =
 pub polygon_if : (c : Chain) (walk : List ℕ) (b : Bool) → b ≡ is_polygon c walk → (b ≡ true) ↔ IsPolygon c walk
 polygon_if c walk b e = ((λ h. polygon_from c walk (sym e ∙ h)), (λ p. e ∙ polygon_test c walk p))
 
+-- where the test of a polygon passes for a closed walk, the walk keeps what every polygon keeps
 pub small_if : (c : Chain) (walk : List ℕ) (b closed : Bool) → closed ≡ true → OnTrue closed ((k : ℕ) → k < length walk → get_or walk k 0 < MAX_POSITIONS) → b ≡ is_polygon c walk →
     OnTrue b (IsSmallWalk walk)
 small_if c walk b closed h below e =

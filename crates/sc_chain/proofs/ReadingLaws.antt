@@ -96,6 +96,7 @@ raw_lines_in_range n (l ∷ ls) =
 
 -- ---- a text read as far as n lines
 
+-- the first n lines of the text gave what was read, and the rest has the lines behind them
 pub record IsReading (text rest : List ℕ) (n : ℕ) (read : List RawLine) : Type 0 where
   pub rest_is : text_lines rest ≡ drop n (text_lines text)
   pub within : n ≤ length (text_lines text)
@@ -103,6 +104,7 @@ pub record IsReading (text rest : List ℕ) (n : ℕ) (read : List RawLine) : Ty
   pub entries : read ≡ raw_lines 1 (take n (text_lines text))
   pub ranges : All IsRawLine read
 
+-- at the start no line is read
 pub start : (text : List ℕ) → IsReading text text 0 []
 start text =
     record {
@@ -119,6 +121,7 @@ pub record IsNext (text rest : List ℕ) (n : ℕ) (line : Line) : Type 0 where
   pub line_is : line_at text (n + 1) ≡ line
   pub rest_is : text_lines rest ≡ drop (n + 1) (text_lines text)
 
+-- the first line of the rest is the next line of the text
 pub next : (text old rest : List ℕ) (n : ℕ) (read : List RawLine) (line : Line) → IsReading text old n read → text_lines old ≡ line ∷ text_lines rest →
     IsNext text rest n line
 next text old rest n read line r e = elim (cases_lt n (length (text_lines text))) [
@@ -208,9 +211,11 @@ some_none : {X : Type 0} (o : Option X) → IsSome o → o ≡ None → ⊥
 some_none None s e = absurd (cc)
 some_none (Some x) s e = none-some x (sym e)
 
+-- a text whose lines all have a case has no first malformed line
 pub good_or_malformed : (text : List ℕ) (read : List RawLine) (line : ℕ) (kind : Kind) → IsChainText text read → IsFirstMalformed text line kind → ⊥
 good_or_malformed text read line kind g m = some_none (line_case (line_at text line)) (g.cases line m.counted m.in_text) m.no_case
 
+-- no text has two first malformed lines, nor two kinds of one
 pub malformed_same : (text : List ℕ) (i j : ℕ) (k l : Kind) → IsFirstMalformed text i k → IsFirstMalformed text j l → (i ≡ j) × (k ≡ l)
 malformed_same text i j k l p q =
     let same : i ≡ j = elim (cases_order i j) [

@@ -33,9 +33,11 @@ letter_back b x e =
           ]
     ]
 
+-- whether each of the bytes spells a letter
 abbrev pub are_letters : List ℕ → Bool
 are_letters bs = list_all (λ b. is_some (letter_of b)) bs
 
+-- bytes that all spell letters spell the word of these, and others spell no word
 pub word_from_letters : (bs : List ℕ) → are_letters bs ≡ true → word_of bs ≡ Some (filter_map letter_of bs)
 word_from_letters [] h = refl
 word_from_letters (b ∷ bs) h =
@@ -58,7 +60,7 @@ word_from_others (b ∷ bs) h =
       | Some x ↦ λ e. let others : are_letters bs ≡ false = rw e at h in rw (word_from_others bs others) (with_none (letter_of b))
     ] refl
 
--- a spelled word has generators only
+-- the letters of a word are those of the generators
 abbrev pub HasGenerators : Word → Type 0
 HasGenerators w = (k : ℕ) → k < length w → (get_or w k no_letter).number < GENERATORS
 
@@ -66,6 +68,7 @@ generators-cons : (x : Letter) (w : Word) → x.number < GENERATORS → HasGener
 generators-cons x w h rest zero l = h
 generators-cons x w h rest (suc k) l = rest k (omega arith)
 
+-- the letters of a spelled word are those of the generators
 pub spelled_generators : (bs : List ℕ) (w : Word) → word_of bs ≡ Some w → HasGenerators w
 spelled_generators [] w e = subst HasGenerators (same_Some _ _ e) (λ k l. absurd (omega arith))
 spelled_generators (b ∷ bs) w e =

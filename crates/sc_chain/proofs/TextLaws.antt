@@ -15,6 +15,7 @@ pub record IsAt {X : Type 0} (p : X → Bool) (xs : List X) (e : ℕ) : Type 0 w
   pub at : e ≡ position_or_len p xs
   pub inside : e < length xs
 
+-- a place that was found is the first that passes the test, in the list; where none was, it is past the end
 pub position_some : {X : Type 0} (p : X → Bool) (xs : List X) (e : ℕ) → position p xs ≡ Some e → IsAt p xs e
 position_some p xs e h = elim (cases_lt (position_or_len p xs) (length xs)) [
   | inl lt ↦
@@ -60,6 +61,7 @@ line_before_feed text e h =
     ∙ keeps_first (before_first is_line_feed text) (slice_split is_line_feed (after_first is_line_feed text)) (parts_nonempty is_line_feed (after_first is_line_feed text)) in
     subst Goal (sym p.at) first
 
+-- a text without a line feed is one line
 pub line_without_feed : (text : List ℕ) → 0 < length text → position is_line_feed text ≡ None → text_lines text ≡ text ∷ text_lines []
 line_without_feed text h e =
     ap without_empty_last (slice_split_none is_line_feed text (fails_before is_line_feed text (position_none is_line_feed text e))) ∙ nonempty_kept text h
@@ -75,6 +77,7 @@ is_some_field f = not (length f == 0)
 blank_skipped : (b : ℕ) (bs : List ℕ) → is_blank b ≡ true → fields (b ∷ bs) ≡ fields bs
 blank_skipped b bs h = ap (filter is_some_field) (slice_split-cons_yes is_blank b bs h)
 
+-- blanks at the front make no field
 pub blanks_skipped : (bs : List ℕ) → fields bs ≡ fields (drop (position_or_len is_nonblank bs) bs)
 blanks_skipped [] = refl
 blanks_skipped (b ∷ bs) = elim (cases_Bool (is_blank b)) [
@@ -115,6 +118,7 @@ skipped bs s h =
       begins = rw first here;
     }
 
+-- the first field goes from the first byte that is no blank to the next blank, or to the end
 pub field_before_blank : (bs : List ℕ) (s e : ℕ) → position is_nonblank bs ≡ Some s → position is_blank (drop s bs) ≡ Some e →
     fields bs ≡ take e (drop s bs) ∷ fields (drop (e + 1) (drop s bs))
 field_before_blank bs s e hs he =

@@ -29,6 +29,7 @@ ended_part table before line (next ∷ more) h = refl
 pub fault_past : (table : Plan) (text : List ℕ) (i : ℕ) → length (parts text) ≤ i → fault_at table text (suc i) ≡ None
 fault_past table text i h = ap (part_fault table (take i (parts text))) (drop_all i (parts text) h)
 
+-- no fault up to a line and none at the next: none up to the next
 pub good_more : (table : Plan) (text : List ℕ) (n : ℕ) → ((i : ℕ) → i ≤ n → fault_at table text i ≡ None) → fault_at table text (suc n) ≡ None → (m : ℕ) → m ≡ n + 1 → (i : ℕ) → i ≤ m → fault_at table text i ≡ None
 good_more table text n below here m e i le =
     elim (cases_lt n i) [
@@ -36,6 +37,7 @@ good_more table text n below here m e i le =
       | inr within ↦ below i within
     ]
 
+-- a text without a fault up to its last part has none at all
 pub faultless_from : (table : Plan) (text : List ℕ) (n : ℕ) → ((i : ℕ) → i ≤ n → fault_at table text i ≡ None) → fault_at table text (suc n) ≡ None → length (parts text) ≤ n + 1 → IsFaultless table text
 faultless_from table text n below here len zero = refl
 faultless_from table text n below here len (suc i) =
@@ -55,18 +57,22 @@ first_fault-unique table text l m j k p q =
       ])
     ]
 
+-- a text without a fault has no first fault
 pub faultless_first : (table : Plan) (text : List ℕ) (l : ℕ) (k : Kind) → IsFaultless table text → IsFirstFault table text l k → ⊥
 faultless_first table text l k good p = none-some k (sym (good l) ∙ p.here)
 
 -- ---- a reader that has read the lines before a part
 
+-- the parts of the text are these lines and the rest, and none of the lines has a fault
 pub record HasRead (table : Plan) (text : List ℕ) (before rest : List Line) : Type 0 where
   pub cut : parts text ≡ before ++ rest
   pub good : (i : ℕ) → i ≤ length before → fault_at table text i ≡ None
 
+-- the fault at the next line, which other parts follow, is that of the line
 pub fault_of_line : (table : Plan) (text : List ℕ) (before : List Line) (line : Line) (after : List Line) → HasRead table text before (line ∷ after) → after ≢ [] → fault_at table text (suc (length before)) ≡ line_fault table before line
 fault_of_line table text before line after h some = fault_at_part table text before (line ∷ after) h.cut ∙ ended_part table before line after some
 
+-- a fault at the part that comes next is the first fault of the text
 pub first_fault_here : (table : Plan) (text : List ℕ) (before rest : List Line) (n : ℕ) (k : Kind) → HasRead table text before rest → n ≡ length before + 1 → part_fault table before rest ≡ Some k → IsFirstFault table text n k
 first_fault_here table text before rest n k h at e =
     let next : suc (length before) ≡ n = omega arith in
@@ -75,14 +81,17 @@ first_fault_here table text before rest n k h at e =
       least = λ i lt. h.good i (omega arith);
     }
 
+-- what keeps the next line from being read, its fault or want of memory, keeps the text from being read
 pub fault_at_line : (table : Plan) (text : List ℕ) (before : List Line) (line : Line) (after : List Line) (n : ℕ) (e : LineFault)
     → HasRead table text before (line ∷ after) → after ≢ [] → n ≡ length before + 1 → IsFault (line_fault table before line) e → IsFaultOf table text (at_line n e)
 fault_at_line table text before line after n (Malformed k) h some at e = first_fault_here table text before (line ∷ after) n k h at (ended_part table before line after some ∙ e)
 fault_at_line table text before line after n Memory h some at e = tt
 
+-- at the start no line is read
 pub read_nothing : (table : Plan) (text : List ℕ) → HasRead table text [] (parts text)
 read_nothing table text = record { cut = refl; good = λ i le. let none : 0 ≡ i = omega arith in subst (λ (k : ℕ). fault_at table text k ≡ None) none refl }
 
+-- a next line without a fault is read too
 pub read_more : (table : Plan) (text : List ℕ) (before now : List Line) (line : Line) (after : List Line)
     → HasRead table text before (line ∷ after) → after ≢ [] → now ≡ before ++ line ∷ [] → line_fault table before line ≡ None → HasRead table text now after
 read_more table text before now line after h some new good =
@@ -93,6 +102,7 @@ read_more table text before now line after h some new good =
       good = good_more table text (length before) h.good here (length now) one;
     }
 
+-- where the last part has no fault either, the text has none
 pub read_all : (table : Plan) (text : List ℕ) (before : List Line) (rest : Line) → HasRead table text before (rest ∷ []) → part_fault table before (rest ∷ []) ≡ None → IsFaultless table text
 read_all table text before rest h good =
     let here = fault_at_part table text before (rest ∷ []) h.cut ∙ good in
@@ -101,6 +111,7 @@ read_all table text before rest h good =
 
 -- ---- an answer of a reader
 
+-- a reader of a text with a first fault answers it, or that memory ran out
 pub answered : {X : Type 0} (table : Plan) (text : List ℕ) (l : ℕ) (k : Kind) (r : Result X TextFault) → OnOk r (IsFaultless table text) → IfErr r (IsFaultOf table text) → IsFirstFault table text l k
     → IsErrAnd r (λ e. (e ≡ text_faults.Malformed l k) ⊎ (e ≡ text_faults.Memory))
 answered table text l k (Ok x) good bad h = faultless_first table text l k good h

@@ -7,12 +7,14 @@ use Rattle.sc_line.specs.Forms.{LineKind, literal_due, one_due, lines_after, mor
 use Rattle.sc_line.proofs.NumberLaws.{good_literal, literal_inverse, count_is_kind}
 use Rattle.sc_line.proofs.FormatLaws.{told_is, line_told, nothing_more, short_more}
 
+-- no line feed in lines, and none in others: none in both, one behind the other
 pub lacks_both : (xs ys : List Line) → AllLack 10 xs → AllLack 10 ys → AllLack 10 (xs ++ ys)
 lacks_both [] ys h k = k
 lacks_both (x ∷ xs) ys h k = (h.0, lacks_both xs ys h.1 k)
 
 -- ---- one format after another
 
+-- lines of the first format, with those of the second behind them, are read in both together
 pub reads_then : {A V : Type 0} (f : Format A) (rest : A → Format V) (g : Format V) (xs ys : List Line) (x : A) → Reads f xs (told x) → Reads (rest x) ys g → Reads (and_then f rest) (xs ++ ys) g
 reads_then (told y) rest g [] ys x r s = subst (λ (z : _). Reads (rest z) ys g) (sym (told_is y x r)) s
 reads_then (told y) rest g (l ∷ xs) ys x r s = absurd r
@@ -28,6 +30,7 @@ pub record IsReadThen {A V : Type 0} (f : Format A) (rest : A → Format V) (lin
   pub reads_first : Reads f front (told first)
   pub reads_rest : Reads (rest first) back (told v)
 
+-- lines that are read in both together are cut where the first format tells its value
 pub split_then : {A V : Type 0} (f : Format A) (rest : A → Format V) (lines : List Line) (v : V) → Reads (and_then f rest) lines (told v) → IsReadThen f rest lines v
 split_then (told x) rest lines v r = record { first = x; front = []; back = lines; are = refl; reads_first = refl; reads_rest = r }
 split_then (a_line fault next) rest [] v r = absurd (line_told fault (λ l. and_then (next l) rest) v r)
@@ -42,6 +45,7 @@ split_then (a_line fault next) rest (l ∷ lines) v r =
       reads_rest = more.reads_rest;
     }
 
+-- both together read at most the lines of the first and those of the second
 pub short_then : {A V : Type 0} (m n : ℕ) (f : Format A) (rest : A → Format V) → IsShort m f → ((lines : List Line) (x : A) → Reads f lines (told x) → IsShort n (rest x)) → IsShort (m + n) (and_then f rest)
 short_then m n (told x) rest h k = short_more n (m + n) (rest x) (omega arith) (k [] x refl)
 short_then zero n (a_line fault next) rest h k = absurd h
@@ -56,6 +60,7 @@ module _ {A B : Type 0} (a : A → List Line) (d : Format A) (InA : A → Type 0
   abbrev both_lines : Both A B → List Line
   both_lines v = a v.first ++ b v.first v.second
 
+  -- the first value is in range, and the second in the range that goes by the first
   abbrev pub InBoth : Both A B → Type 0
   InBoth v = InA v.first × InB v.first v.second
 
@@ -84,6 +89,7 @@ module _ {A B : Type 0} (a : A → List Line) (d : Format A) (InA : A → Type 0
         in_range = subst (λ (x : A). InA x × InB x v.second) rest.1 (x_in, rest.2);
       }
 
+  -- two lawful forms, one behind the other, are lawful together
   pub lawful_both : IsLawful a d InA m → ((x : A) → InA x → IsLawful (b x) (e x) (InB x) n) → IsLawful both_lines (both_due d e) InBoth (m + n)
   lawful_both first second = record {
     reads = λ v h.
@@ -141,6 +147,7 @@ lawful_where lines due InRange InV most law to from = record {
 
 -- ---- a line that is due word by word
 
+-- a line without line feeds, due word by word, is a lawful form
 pub lawful_literal : (text : Line) → lacks 10 text ≡ true → IsLawful (λ (u : Unit {0}). text ∷ []) (literal_due text false) (λ u. Unit {0}) 1
 lawful_literal text lack = record {
   reads = λ u h. (good_literal text, refl);
@@ -165,6 +172,7 @@ module _ {A : Type 0} (kind : LineKind A) (InRange : A → Type 0) (law : IsLine
       let end = nothing_more (kind.value l) x ls r.1 in
       ((λ i. (law.line_is l r.0 ∙ ap kind.line end.1) i ∷ end.0 i), subst InRange end.1 (law.in_range l r.0))
 
+  -- one line of a kind is a lawful form
   pub lawful_one : ((x : A) → lacks 10 (kind.line x) ≡ true) → IsLawful (λ x. kind.line x ∷ []) (one_due kind None) InRange 1
   lawful_one lack = record {
     reads = λ x h. (law.good x h, ap told (law.value_is x h));
@@ -181,6 +189,7 @@ abbrev pub AllAfter : {A : Type 0} → (List A → A → Type 0) → List A → 
 AllAfter InRange before [] = Unit {0}
 AllAfter InRange before (x ∷ xs) = InRange before x × AllAfter InRange (before ++ x ∷ []) xs
 
+-- where the range of a value does not go by those before it, all are in it; and back
 pub all_after : {A : Type 0} (P : A → Type 0) (before xs : List A) → AllByRecursion P xs → AllAfter (λ b. P) before xs
 all_after P before [] h = tt
 all_after P before (x ∷ xs) h = (h.0, all_after P (before ++ x ∷ []) xs h.1)
@@ -189,10 +198,12 @@ pub all_of : {A : Type 0} (P : A → Type 0) (before xs : List A) → AllAfter (
 all_of P before [] h = tt
 all_of P before (x ∷ xs) h = (h.0, all_of P (before ++ x ∷ []) xs h.1)
 
+-- where the line of a value does not go by those before it, the lines are those of the values
 pub lines_map : {A : Type 0} (kind : List A → LineKind A) (line_for : A → Line) → ((before : List A) (x : A) → (kind before).line x ≡ line_for x) → (before xs : List A) → lines_after kind before xs ≡ map line_for xs
 lines_map kind line_for same before [] = refl
 lines_map kind line_for same before (x ∷ xs) = λ i. same before x i ∷ lines_map kind line_for same (before ++ x ∷ []) xs i
 
+-- behind any values before it, a line is of a kind that tells the values in range
 abbrev pub AreKinds : {A : Type 0} → (List A → LineKind A) → (List A → A → Type 0) → Type 0
 AreKinds kind InRange = (before : List _) → IsLineKind (kind before).fault (kind before).value (kind before).line (InRange before)
 
@@ -241,6 +252,7 @@ module _ {A : Type 0} (kind : List A → LineKind A) (InRange : List A → A →
     pub count : length xs ≡ n
     pub in_range : AllAfter InRange [] xs
 
+  -- so many lines, each of the kind that the values before it say, are a lawful form
   pub lawful_many : (n most : ℕ) → n ≤ most → IsLawful (lines_after kind []) (many_due kind n []) (AreMany n) most
   lawful_many n most few = record {
     reads = λ xs h. subst (λ (k : ℕ). Reads (more_due kind k []) (lines_after kind [] xs) (told xs)) (h.count ∙ all n) (reads_more [] xs h.in_range);
@@ -271,6 +283,7 @@ module _ {A : Type 0} (kind : List A → LineKind A) (InRange : List A → A →
         record { few = subst (λ (n : ℕ). n ≤ most) (sym items.count) few.high_end; in_range = items.in_range },
       )
 
+  -- a count and as many such lines are a lawful form
   pub lawful_counted : (name : List ℕ) (most : ℕ) → lacks 32 name ≡ true → ((n : ℕ) → lacks 10 (count_line name n) ≡ true) → IsLawful (λ xs. count_line name (length xs) ∷ lines_after kind [] xs) (counted_from name most kind None []) (AreCounted most) (suc most)
   lawful_counted name most named unended =
       let k = count_is_kind name 0 most named in
@@ -299,6 +312,7 @@ pub record AreFew {A : Type 0} (P : A → Type 0) (most : ℕ) (xs : List A) : T
   pub all : AllByRecursion P xs
 
 module _ {A : Type 0} (kind : List A → LineKind A) (P : A → Type 0) (law : AreKinds kind (λ b. P)) (lack : (before : List A) (x : A) → lacks 10 ((kind before).line x) ≡ true) where
+  -- so many lines in one range are a lawful form, and so are a count and as many lines
   pub lawful_all : (n most : ℕ) → n ≤ most → IsLawful (lines_after kind []) (many_due kind n []) (AreAll P n) most
   lawful_all n most few =
       lawful_where (lines_after kind []) (many_due kind n []) (AreMany kind (λ b. P) law lack n) (AreAll P n) most (lawful_many kind (λ b. P) law lack n most few)

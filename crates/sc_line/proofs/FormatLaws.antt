@@ -13,6 +13,7 @@ use Rattle.sc_line.proofs.FaultLaws.{HasRead, read_nothing, read_more, read_all,
 
 -- ---- lines that are read in a format
 
+-- lines that lead from f to g, with others behind them that lead from g to h, lead from f to h
 pub reads_append : {V : Type 0} (f g h : Format V) (xs ys : List Line) → Reads f xs g → Reads g ys h → Reads f (xs ++ ys) h
 reads_append f g h [] ys r s = subst (λ (d : Format _). Reads d ys h) (sym r) s
 reads_append (told v) g h (x ∷ xs) ys r s = absurd r
@@ -24,12 +25,13 @@ reads_once f g h [] r s = sym r ∙ s
 reads_once (told v) g h (x ∷ xs) r s = absurd r
 reads_once (a_line fault rest) g h (x ∷ xs) r s = reads_once (rest x) g h xs r.1 s.1
 
+-- what the lines that are read lead to is what is due after them
 pub reads_after : {V : Type 0} (f g : Format V) (lines : List Line) → Reads f lines g → after_lines f lines ≡ g
 reads_after f g [] r = r
 reads_after (told v) g (x ∷ xs) r = absurd r
 reads_after (a_line fault rest) g (x ∷ xs) r = reads_after (rest x) g xs r.1
 
--- no line is due where a value is told
+-- what is told is one value
 pub told_is : {V : Type 0} (v w : V) → told v ≡ told w → v ≡ w
 told_is v w e = ap (value_or v) e
   where
@@ -37,6 +39,7 @@ told_is v w e = ap (value_or v) e
     value_or v (told w) = w
     value_or v (a_line fault rest) = v
 
+-- no line is due where a value is told
 pub line_told : {V : Type 0} (fault : Line → Option Kind) (rest : Line → Format V) (v : V) → a_line fault rest ≡ told v → ⊥
 line_told fault rest v e = false≢true (sym (ap (λ (f : Format _). is_some (due_line f)) e))
 
@@ -52,12 +55,14 @@ one_step (a_line fault rest) g line s = (s.good, sym s.next)
 
 -- ---- how many lines are read
 
+-- what reads at most m lines reads at most n, where m is at most n
 pub short_more : {V : Type 0} (m n : ℕ) (f : Format V) → m ≤ n → IsShort m f → IsShort n f
 short_more m n (told v) le h = tt
 short_more zero n (a_line fault rest) le h = absurd h
 short_more (suc m) zero (a_line fault rest) le h = absurd (omega arith)
 short_more (suc m) (suc n) (a_line fault rest) le h = λ line good. short_more m n (rest line) (omega arith) (h line good)
 
+-- no more lines are read than the bound says
 pub short_read : {V : Type 0} (n : ℕ) (f g : Format V) (lines : List Line) → IsShort n f → Reads f lines g → length lines ≤ n
 short_read n f g [] h r = omega arith
 short_read n (told v) g (x ∷ xs) h r = absurd r
@@ -72,19 +77,23 @@ after_lines-append : {V : Type 0} (f : Format V) (xs ys : List Line) → after_l
 after_lines-append f [] ys = refl
 after_lines-append f (x ∷ xs) ys = after_lines-append (after_line f x) xs ys
 
+-- by the plan of a format, the fault of a line is that of what is due after the lines before it
 pub line_fault_of : {V : Type 0} (f g : Format V) (before : List Line) (line : Line) → after_lines f before ≡ g → line_fault (plan_of f) before line ≡ fault_due g line
 unfolding plan_of
 line_fault_of f (told v) before line e = rw e refl
 line_fault_of f (a_line fault rest) before line e = rw e refl
 
+-- where all is told, bytes behind the last line are the fault Rest, and without them there is none
 pub end_when_told : {V : Type 0} (f : Format V) (v : V) (before : List Line) (rest : Line) → after_lines f before ≡ told v → part_fault (plan_of f) before (rest ∷ []) ≡ cond (eqb (length rest) 0) None (Some Rest)
 unfolding plan_of
 end_when_told f v before rest e = rw e refl
 
+-- where a line is due yet, the end of the text is the fault Ended
 pub end_when_due : {V : Type 0} (f : Format V) (fault : Line → Option Kind) (more : Line → Format V) (before : List Line) (rest : Line) → after_lines f before ≡ a_line fault more → part_fault (plan_of f) before (rest ∷ []) ≡ Some Ended
 unfolding plan_of
 end_when_due f fault more before rest e = rw e refl
 
+-- what is due after one line more
 pub after_push : {V : Type 0} (f g : Format V) (before : List Line) (line : Line) → after_lines f before ≡ g → after_lines f (before ++ line ∷ []) ≡ after_line g line
 after_push f g before line e = after_lines-append f before (line ∷ []) ∙ ap (λ (d : Format _). after_line d line) e
 
@@ -98,6 +107,7 @@ faultless_from text start (a_line fault rest) before (line ∷ lines) v e read r
     let next = read_more (plan_of start) text before (before ++ line ∷ []) line (lines ++ [] ∷ []) read some refl good in
     faultless_from text start (rest line) (before ++ line ∷ []) lines v (after_push start (a_line fault rest) before line e) next r.1
 
+-- a text whose lines tell a value has no fault
 pub faultless_if_read : {V : Type 0} (f : Format V) (text : List ℕ) (lines : List Line) (v : V) → parts text ≡ lines ++ [] ∷ [] → Reads f lines (told v) → IsFaultless (plan_of f) text
 faultless_if_read f text lines v e r =
     faultless_from text f f [] lines v refl (subst (HasRead (plan_of f) text []) e (read_nothing (plan_of f) text)) r
@@ -135,5 +145,6 @@ told_from text start (a_line fault more) before (line ∷ next ∷ others) some 
     let rest = told_from text start (more line) (before ++ line ∷ []) (next ∷ others) (λ none. absurd cc) (after_push start (a_line fault more) before line e) onward good in
     record { lines = line ∷ rest.lines; value = rest.value; are = ap (λ (ls : List Line). line ∷ ls) rest.are; reads = (passes, rest.reads) }
 
+-- the parts of a text without a fault are lines that tell a value, and nothing behind them
 pub read_if_faultless : {V : Type 0} (f : Format V) (text : List ℕ) → IsFaultless (plan_of f) text → IsTold f (parts text)
 read_if_faultless f text good = told_from text f f [] (parts text) (split_some _ text) refl refl good

@@ -18,6 +18,7 @@ use Rattle.sc_line.specs.Lines.{Line, Field, text_of, parts, spaced, fields, nat
 
 -- ---- cutting at a byte
 
+-- a list is cut at the first place that passes the test
 pub split_found : (p : ℕ → Bool) (xs : List ℕ) (i : ℕ) → position p xs ≡ Some i → slice_split p xs ≡ take i xs ∷ slice_split p (drop (i + 1) xs)
 split_found p xs i e =
     let at = cond_some _ _ _ e in
@@ -32,6 +33,7 @@ split_past p (x ∷ xs) h =
       | inr e ↦ let more : suc (length xs) ≤ 1 + position_or_len p xs = rw e at h in slice_split-cons_no p x xs e ∙ ap (onto_first x) (split_past p xs (omega arith))
     ]
 
+-- without such a place it is one piece
 pub split_none : (p : ℕ → Bool) (xs : List ℕ) → position p xs ≡ None → slice_split p xs ≡ xs ∷ []
 split_none p xs e =
     elim (cases_Bool (ltb (position_or_len p xs) (length xs))) [
@@ -44,23 +46,27 @@ split_some p xs e = absurd (omega (arith, length-slice_split p xs, ap length e))
 
 -- ---- lists
 
+-- a fact of each entry, and of one more at the end
 pub All_push : {A : Type 0} (P : A → Type 0) (xs : List A) (x : A) → AllByRecursion P xs → P x → AllByRecursion P (xs ++ x ∷ [])
 All_push P [] x h p = (p, tt)
 All_push P (y ∷ xs) x h p = (h.0, All_push P xs x h.1 p)
 
 -- ---- joining
 
+-- where a byte does not occur, each byte is another
 pub lacking : (c : ℕ) (bs : List ℕ) → lacks c bs ≡ true → All (λ b. eqb b c ≡ false) bs
 lacking c [] h k d l = absurd (omega arith)
 lacking c (b ∷ bs) h zero d l = not-true _ (and_parts _ _ h).0
 lacking c (b ∷ bs) h (suc k) d l = lacking c bs (and_parts _ _ h).1 k d (omega arith)
 
+-- a byte that occurs in neither list does not occur in both, one behind the other
 pub lacks-append : (c : ℕ) (xs ys : List ℕ) → lacks c xs ≡ true → lacks c ys ≡ true → lacks c (xs ++ ys) ≡ true
 lacks-append c [] ys h k = k
 lacks-append c (x ∷ xs) ys h k =
     let both = and_parts _ _ h in
     and_from _ _ both.0 (lacks-append c xs ys both.1 k)
 
+-- a line is that of its fields; and fields without spaces are those of their line
 pub spaced-fields : (line : Line) → spaced (fields line) ≡ line
 spaced-fields line = join_with_byte-slice_split 32 line
 
@@ -69,6 +75,7 @@ fields-spaced f [] h = slice_split_none (λ b. eqb b 32) f (lacking 32 f h.0)
 fields-spaced f (g ∷ gs) h =
     slice_split_at (λ b. eqb b 32) f 32 (spaced (g ∷ gs)) (lacking 32 f h.0) refl ∙ ap (λ (rest : List Field). f ∷ rest) (fields-spaced g gs h.1)
 
+-- the parts of a text of lines without line feeds are these lines, with nothing behind them
 pub parts-text_of : (lines : List Line) → AllLack 10 lines → parts (text_of lines) ≡ lines ++ [] ∷ []
 parts-text_of [] h = refl
 parts-text_of (line ∷ lines) h =
@@ -81,6 +88,7 @@ joined_lines line [] = sym (append-nil (line ++ 10 ∷ []))
 joined_lines line (next ∷ lines) =
     ap (λ (rest : List ℕ). line ++ (10 ∷ rest)) (joined_lines next lines) ∙ sym (append_assoc line (10 ∷ []) (text_of (next ∷ lines)))
 
+-- a text whose parts are lines, with nothing behind them, is that of these lines
 pub text_from_parts : (text : List ℕ) (lines : List Line) → parts text ≡ lines ++ [] ∷ [] → text ≡ text_of lines
 text_from_parts text [] e = sym (join_with_byte-slice_split 10 text) ∙ ap (join_with_byte 10) e
 text_from_parts text (line ∷ lines) e = sym (join_with_byte-slice_split 10 text) ∙ ap (join_with_byte 10) e ∙ joined_lines line lines
@@ -106,6 +114,7 @@ number_written-spelling (pos n) =
     rw plain (ap pos (natural_written-spelling n))
 number_written-spelling (negsuc n) = ap (λ (m : ℕ). neg_ℤ (pos m)) (natural_written-spelling (suc n))
 
+-- a field is a number exactly where it is the spelling of the number
 pub number_of-spelling : (z : ℤ) → number_of (spelling z) ≡ Some z
 unfolding number_of
 number_of-spelling z = rw (number_written-spelling z, same_bytes (spelling z)) refl
@@ -137,6 +146,7 @@ lacks-spelling_but c (negsuc n) small minus =
 pub lacks-spelling : (c : ℕ) (z : ℤ) → c < 45 → lacks c (spelling z) ≡ true
 lacks-spelling c z small = lacks-spelling_but c z (omega arith) (λ e. omega arith)
 
+-- a field that is the spelling of no number is no number
 pub number_of_none : (f : Field) → ((z : ℤ) → f ≡ spelling z → ⊥) → number_of f ≡ None
 number_of_none f none =
     elim (number_of f) as (λ (o : Option ℤ). number_of f ≡ o → o ≡ None) [
@@ -172,6 +182,7 @@ other_number old new number z fits t other =
     narrowed_otherwise None z fits h other = h fits
     narrowed_otherwise (Some x) z fits h other = other (ap Some h)
 
+-- where the first of the fields is no number, it is not the number z
 pub no_number : (fs : List Field) (z : ℤ) → first_number fs ≡ None → is_named (spelling z) fs ≡ false
 no_number [] z h = refl
 no_number (f ∷ fs) z h =
@@ -180,6 +191,7 @@ no_number (f ∷ fs) z h =
       | inr apart ↦ apart
     ]
 
+-- a line is that of its fields
 pub line_from_fields : (line : Line) (fs : List Field) → fields line ≡ fs → line ≡ spaced fs
 line_from_fields line fs e = sym (spaced-fields line) ∙ ap spaced e
 

@@ -19,11 +19,13 @@ use Rattle.sc_line.proofs.LineLaws.{fields-spaced, lacks-spelling, number_of-spe
 
 -- ---- ranges of natural numbers
 
+-- a natural number in the range passes the test of the range
 pub between-natural : (low high n : ℕ) → low ≤ n → n ≤ high → between low high (pos n) ≡ true
 between-natural low high n h k = grind (arith, ints, nat_tests)
 
 -- ---- lines by their faults
 
+-- where a line is due word by word, this line and no other has no fault
 pub good_literal : (due : Line) → literal_fault due due ≡ None
 good_literal due = rw (same_bytes due) refl
 
@@ -34,11 +36,13 @@ literal_inverse due line h =
       | inr other ↦ absurd (none-some Form (sym (let fault : Some Form ≡ None = rw other at h in fault)))
     ]
 
+-- the fields are the name and others without a fault
 pub record IsNamed (name : List ℕ) (others : List Field → Option Kind) (fs : List Field) : Type 0 where
   pub rest : List Field
   pub fields : fs ≡ name ∷ rest
   pub good : others rest ≡ None
 
+-- fields without a fault are the name and others without a fault
 pub named_from : (name : List ℕ) (others : List Field → Option Kind) (fs : List Field) → cond (is_named name fs) (others (drop 1 fs)) (Some Form) ≡ None → IsNamed name others fs
 named_from name others [] h = absurd (none-some Form (sym h))
 named_from name others (f ∷ fs) h =
@@ -47,15 +51,18 @@ named_from name others (f ∷ fs) h =
       | inr other ↦ absurd (none-some Form (sym (let fault : Some Form ≡ None = rw other at h in fault)))
     ]
 
+-- the same of the fields of a line
 pub named_inverse : (name : List ℕ) (others : List Field → Option Kind) (line : Line) → named_fault name others line ≡ None → IsNamed name others (fields line)
 named_inverse name others line h = named_from name others (fields line) h
 
+-- as many numbers as ranges, each in its range
 abbrev pub InRanges : List NumberRange → List ℤ → Type 0
 InRanges [] [] = Unit {0}
 InRanges [] (z ∷ zs) = ⊥
 InRanges (r ∷ rs) [] = ⊥
 InRanges (r ∷ rs) (z ∷ zs) = (r z ≡ true) × InRanges rs zs
 
+-- the fields spell numbers in these ranges, one for each range
 pub record AreNumbers (rs : List NumberRange) (fs : List Field) : Type 0 where
   pub numbers : List ℤ
   pub fields : fs ≡ map spelling numbers
@@ -78,6 +85,7 @@ numbers_from (r ∷ rs) (f ∷ fs) h k =
       }
     ] refl
 
+-- fields without a fault spell numbers in the ranges
 pub numbers_inverse : (rs : List NumberRange) (fs : List Field) → numbers_fault rs fs ≡ None → AreNumbers rs fs
 numbers_inverse rs fs h =
     elim (cases_Bool (are_numbers rs fs)) [
@@ -89,12 +97,14 @@ numbers_inverse rs fs h =
       | inr others ↦ absurd (none-some Form (sym (let fault : Some Form ≡ None = rw others at h in fault)))
     ]
 
+-- a whole number is a natural one in the range
 pub record IsNatural (low high : ℕ) (z : ℤ) : Type 0 where
   pub natural : ℕ
   pub is : z ≡ pos natural
   pub low_end : low ≤ natural
   pub high_end : natural ≤ high
 
+-- a number that passes the test of the range is a natural one in it
 pub natural_from : (low high : ℕ) (z : ℤ) → between low high z ≡ true → IsNatural low high z
 natural_from low high (pos n) h =
     let ends = and_parts (int_le (pos low) (pos n)) (int_le (pos n) (pos high)) h in
@@ -105,6 +115,7 @@ natural_from low high (negsuc n) h =
     let ends = and_parts (int_le (pos low) (negsuc n)) (int_le (negsuc n) (pos high)) h in
     absurd (grind (arith, ints, nat_tests, ends.0))
 
+-- the line is that of the name and a count in the range
 pub record IsCountLine (name : List ℕ) (low high : ℕ) (line : Line) : Type 0 where
   pub count : ℕ
   pub is : line ≡ count_line name count
@@ -118,6 +129,7 @@ count_from name low high line (z ∷ []) e h =
     record { count = n.natural; is = line_from_fields line _ e ∙ ap (λ (y : ℤ). spaced (name ∷ spelling y ∷ [])) n.is; low_end = n.low_end; high_end = n.high_end }
 count_from name low high line (z ∷ y ∷ zs) e h = absurd h.1
 
+-- a line without a fault is that of the name and a count in the range
 pub count_inverse : (name : List ℕ) (low high : ℕ) (line : Line) → numbers_line_fault name (between low high ∷ []) line ≡ None → IsCountLine name low high line
 count_inverse name low high line h =
     let named = named_inverse name (numbers_fault (between low high ∷ [])) line h in
@@ -126,6 +138,7 @@ count_inverse name low high line h =
 
 -- ---- lines of a name and a count
 
+-- the fields of the line of a name and a count are the name and the spelling of the count
 pub fields-count_line : (name : List ℕ) (n : ℕ) → lacks 32 name ≡ true → fields (count_line name n) ≡ name ∷ spelling (pos n) ∷ []
 fields-count_line name n h = fields-spaced name (spelling (pos n) ∷ []) (h, (lacks-spelling 32 (pos n) (omega arith), tt))
 
@@ -163,6 +176,7 @@ kind_from fault value line_for InRange good value_is inverse =
       line_is = λ line h. (inverse line h).is ∙ ap line_for (sym (tells line h));
     }
 
+-- the lines of a name and a count in a range are a kind of lines, whose value is the count
 pub count_is_kind : (name : List ℕ) (low high : ℕ) → lacks 32 name ≡ true → IsLineKind (numbers_line_fault name (between low high ∷ [])) count_in (count_line name) (IsCountInRange low high)
 count_is_kind name low high h =
     kind_from _ count_in (count_line name) (IsCountInRange low high)

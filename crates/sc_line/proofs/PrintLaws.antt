@@ -7,6 +7,7 @@ use Rattle.std.proofs.lemmas.List.Concat.{flat_map-append}
 use Rattle.sc_line.specs.Lines.{Line, Field, spaced, ended, text_of}
 use Rattle.sc_line.specs.Printing.{AppendsPart}
 
+-- where nothing is appended, a front of any text is
 pub nothing_appended : (old new text : List ℕ) → new ≡ old → AppendsPart old new text
 nothing_appended old new text e = record { written = []; left = text; whole = refl; appended = e ∙ sym (append-nil old) }
 
@@ -29,9 +30,11 @@ pieces_at f xs i d h =
     ap (flat_map f) (sym (take-append-drop i xs)) ∙ flat_map-append f (take i xs) (drop i xs)
     ∙ ap (λ rest. flat_map f (take i xs) ++ flat_map f rest) (drop_more xs i d h)
 
+-- the pieces up to an index, and the one at it, are the pieces up to the next index
 pub pieces_more : {X : Type 0} (f : X → List ℕ) (bs : List ℕ) (xs : List X) (i : ℕ) (d : X) → i < length xs → (bs ++ flat_map f (take i xs)) ++ f (get_or xs i d) ≡ bs ++ flat_map f (take (i + 1) xs)
 pieces_more f bs xs i d h = flat_map_more f bs (take i xs) (get_or xs i d) ∙ ap (λ ys. bs ++ flat_map f ys) (sym (take_more xs i d h))
 
+-- the pieces of a list that was mapped are those of the list by both functions
 pub flat_map-map : {X Y : Type 0} (f : Y → List ℕ) (g : X → Y) (xs : List X) → flat_map f (map g xs) ≡ flat_map (λ x. f (g x)) xs
 flat_map-map f g [] = refl
 flat_map-map f g (x ∷ xs) = ap (λ rest. f (g x) ++ rest) (flat_map-map f g xs)
@@ -65,6 +68,7 @@ line_field g name xs i d h =
     ∙ ap (λ ys. (name ++ flat_map (λ x. 32 ∷ g x) (take i xs)) ++ (flat_map (λ x. 32 ∷ g x) ys ++ 10 ∷ [])) (drop_more xs i d h)
     ∙ simp append_assoc
 
+-- what holds anyway holds where the result is an error
 pub on_err : {T E : Type 0} (r : Result T E) {P : Type 0} → P → OnErr r P
 on_err (Ok x) h = tt
 on_err (Err e) h = h
@@ -76,6 +80,7 @@ front_part mid new piece rest p = part_after mid mid new [] piece rest (piece ++
 pub then_part : (old mid new piece rest : List ℕ) → mid ≡ old ++ piece → AppendsPart mid new rest → AppendsPart old new (piece ++ rest)
 then_part old mid new piece rest e p = part_after old mid new piece rest [] (piece ++ rest) e p (ap (λ (t : List ℕ). piece ++ t) (sym (append-nil rest)))
 
+-- all of the first piece and all of the second are both pieces
 pub then_all : (old mid new piece rest : List ℕ) → mid ≡ old ++ piece → new ≡ mid ++ rest → new ≡ old ++ (piece ++ rest)
 then_all old mid new piece rest e f = f ∙ ap (λ (t : List ℕ). t ++ rest) e ∙ append_assoc old piece rest
 

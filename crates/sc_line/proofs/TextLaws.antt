@@ -57,6 +57,7 @@ module _ {V : Type 0} (lines : V → List Line) (due : Format V) (InRange : V �
   text_of_read bytes value (Err e) good bad = record { text = tt; in_range = tt; malformed = bad }
 
   module _ {X : Type 0} (bytes : List ℕ) (value : X → V) where
+    -- a text that was read has no fault
     pub faultless : (r : Result X TextFault) → IsRead (λ v. text_of (lines v)) InRange (plan_of due) bytes value r → OnOk r (IsFaultless (plan_of due) bytes)
     faultless (Ok x) h = subst (IsFaultless (plan_of due)) (sym h.text) (text_is_faultless (value x) h.in_range)
     faultless (Err e) h = tt
@@ -71,6 +72,7 @@ module _ {V : Type 0} (lines : V → List Line) (due : Format V) (InRange : V �
     reads_again (Ok x) h v range is = text_is_of_one (value x) v h.in_range range (sym h.text ∙ is)
     reads_again (Err e) h v range is = tt
 
+    -- where the text of a value in range is not read, memory ran out
     pub memory : (r : Result X TextFault) → IsRead (λ v. text_of (lines v)) InRange (plan_of due) bytes value r → (v : V) → InRange v → bytes ≡ text_of (lines v) → IfErr r (λ e. e ≡ text_faults.Memory)
     memory (Ok x) h v range is = tt
     memory (Err (text_faults.Malformed line kind)) h v range is =
@@ -81,6 +83,7 @@ module _ {V : Type 0} (lines : V → List Line) (due : Format V) (InRange : V �
 
 -- ---- a reader that has read the lines before a part
 
+-- the lines before the rest were read and lead to what is due now; the next line has this number
 pub record IsReadUpTo {V : Type 0} (start : Format V) (text : List ℕ) (f : Format V) (rest : List Line) (number : ℕ) : Type 0 where
   pub before : List Line
   pub read : HasRead (plan_of start) text before rest
@@ -88,6 +91,7 @@ pub record IsReadUpTo {V : Type 0} (start : Format V) (text : List ℕ) (f : For
   pub number_is : number ≡ length before + 1
 
 module _ {V : Type 0} (start : Format V) (text : List ℕ) where
+  -- at the start nothing is read, and the next line is the first
   pub start_reading : IsReadUpTo start text start (parts text) 1
   start_reading = record { before = []; read = read_nothing (plan_of start) text; reads = refl; number_is = refl }
 
@@ -100,6 +104,7 @@ module _ {V : Type 0} (start : Format V) (text : List ℕ) where
   fault_is : (f : Format V) (before : List Line) (line : Line) → Reads start before f → line_fault (plan_of start) before line ≡ fault_due f line
   fault_is f before line r = line_fault_of start f before line (reads_after start f before r)
 
+  -- a next line that steps is read too
   pub read_line : (f g : Format V) (line : Line) (after : List Line) (number : ℕ) → IsReadUpTo start text f (line ∷ after) number → after ≢ [] → Steps f g line → IsReadUpTo start text g after (number + 1)
   read_line f g line after number h some step = record {
     before = h.before ++ line ∷ [];
@@ -108,6 +113,7 @@ module _ {V : Type 0} (start : Format V) (text : List ℕ) where
     number_is = omega (arith, h.number_is, length_push h.before line);
   }
 
+  -- what keeps the next line from being read, its fault or want of memory, keeps the text from being read
   pub bad_line : (f : Format V) (line : Line) (after : List Line) (number : ℕ) (e : LineFault) → IsReadUpTo start text f (line ∷ after) number → after ≢ [] → IsFault (fault_due f line) e → IsFaultOf (plan_of start) text (at_line number e)
   bad_line f line after number e h some bad =
       fault_at_line (plan_of start) text h.before line after number e h.read some h.number_is (subst (λ (o : Option Kind). IsFault o e) (sym (fault_is f h.before line h.reads)) bad)
@@ -116,6 +122,7 @@ module _ {V : Type 0} (start : Format V) (text : List ℕ) where
   told_line (told v) line h = refl
   told_line (a_line fault rest) line h = absurd (false≢true h)
 
+  -- a line where none is due is the first fault of the text
   pub line_too_many : (f : Format V) (line : Line) (after : List Line) (number : ℕ) → IsReadUpTo start text f (line ∷ after) number → after ≢ [] → is_told f ≡ true → IsFaultOf (plan_of start) text (text_faults.Malformed number Rest)
   line_too_many f line after number h some whole =
       fault_at_line (plan_of start) text h.before line after number (Malformed Rest) h.read some h.number_is (fault_is f h.before line h.reads ∙ told_line f line whole)
@@ -131,6 +138,7 @@ module _ {V : Type 0} (start : Format V) (text : List ℕ) where
   bad_end f rest number k h bad =
       first_fault_here (plan_of start) text h.before (rest ∷ []) number k h.read h.number_is (end_is f h.before rest (reads_after start f h.before h.reads) ∙ bad)
 
+  -- the end of the text where a line is due is its first fault
   pub ends_early : (f : Format V) (rest : Line) (number : ℕ) → IsReadUpTo start text f (rest ∷ []) number → is_told f ≡ false → IsFaultOf (plan_of start) text (text_faults.Malformed number Ended)
   ends_early f rest number h due = bad_end f rest number Ended h (early f due)
     where
@@ -138,6 +146,7 @@ module _ {V : Type 0} (start : Format V) (text : List ℕ) where
       early (told v) e = absurd (false≢true (sym e))
       early (a_line fault more) e = refl
 
+  -- bytes behind the last line, where no line is due, are the first fault of the text
   pub ends_late : (f : Format V) (v : V) (rest : Line) (number : ℕ) → IsReadUpTo start text f (rest ∷ []) number → f ≡ told v → eqb (length rest) 0 ≡ false → IsFaultOf (plan_of start) text (text_faults.Malformed number Rest)
   ends_late f v rest number h due some = bad_end f rest number Rest h (ap (λ (g : Format V). end_fault g rest) due ∙ late rest some)
     where
@@ -145,6 +154,7 @@ module _ {V : Type 0} (start : Format V) (text : List ℕ) where
       late [] e = absurd (false≢true (sym e))
       late (b ∷ bs) e = refl
 
+  -- where a value is told and no bytes are left, the text tells the value
   pub read_to_end : (f : Format V) (v : V) (rest : Line) (number : ℕ) → IsReadUpTo start text f (rest ∷ []) number → f ≡ told v → rest ≡ [] → IsToldBy start text v
   read_to_end f v rest number h due empty = record {
     lines = h.before;

@@ -85,6 +85,7 @@ impl<K: LineItem> LinePart for Counted<K> {
         if !self.is_whole(context) {
             return None;
         }
+        // No field is moved out of a struct by its name: the pattern takes the struct apart.
         let Counted {
             name: _,
             most: _,

@@ -58,6 +58,7 @@ impl<K: NumberedItem> LinePart for Many<K> {
 
     fn finish(self, context: &K::Context) -> Option<Vec<K::Value>> {
         let whole = self.is_whole(context);
+        // No field is moved out of a struct by its name: the pattern takes the struct apart.
         let Many { kind: _, values } = self;
         whole.then_some(values)
     }

@@ -51,6 +51,7 @@ impl<K: LineItem> LinePart for One<K> {
     }
 
     fn finish(self, _context: &K::Context) -> Option<K::Value> {
+        // No field is moved out of a struct by its name: the pattern takes the struct apart.
         let One { kind: _, value } = self;
         value
     }

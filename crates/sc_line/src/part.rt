@@ -83,6 +83,7 @@ impl<A: LinePart, B: LinePart<Context = A::Context>> LinePart for Pair<A, B> {
     }
 
     fn finish(self, context: &A::Context) -> Option<(A::Out, B::Out)> {
+        // No field is moved out of a struct by its name: the pattern takes the struct apart.
         let Pair { first, second } = self;
         let front = first.finish(context)?;
         let back = second.finish(context)?;
@@ -117,6 +118,7 @@ impl<C, P: LinePart<Context = ()>> LinePart for Free<P, C> {
     }
 
     fn finish(self, _context: &C) -> Option<P::Out> {
+        // No field is moved out of a struct by its name: the pattern takes the struct apart.
         let Free { part, of: _ } = self;
         part.finish(&())
     }
