@@ -1,5 +1,5 @@
 -- What a line of a certificate does to what is due.
-use Rattle.std.proofs.Common.{◌≡◌, ℕ, ◌-◌, Bool, true, false, List, [], ◌∷◌, ◌++◌, Option, Some, None, Result, Ok, Err, codes, refl, sym, ap, subst, ◌∙◌}
+use Rattle.std.proofs.Common.{◌≡◌, ℕ, ◌-◌, Bool, true, false, [], ◌∷◌, ◌++◌, Option, Some, None, Result, Ok, Err, refl, sym, ap, subst, ◌∙◌}
 use Rattle.std.specs.Prelude.{OnOk, OnErr, IfNone}
 use Rattle.std.proofs.lemmas.Bool.{false≢true}
 use Rattle.std.proofs.lemmas.Option.{none-some}
@@ -9,9 +9,9 @@ use Rattle.sc_line.specs.declared.fault.LineFault.{LineFault}
 use Rattle.sc_line.specs.LineFaults.{IsFault}
 use Rattle.sc_line.specs.Lines.{Line}
 use Rattle.sc_line.specs.Formats.{Format, told, a_line, is_told, fault_due, Steps, Reads}
-use Rattle.sc_line.specs.Forms.{LineKind, Tells, Both, literal_due, counted_from, one_due, and_also, and_then, both_due}
+use Rattle.sc_line.specs.Forms.{LineKind, Tells, literal_due, counted_from, one_due, and_also, and_then, both_due}
 use Rattle.sc_line.proofs.FormatLaws.{reads_append, one_step}
-use Rattle.sc_line.proofs.PartLaws.{steps_then, fault_then, told_then, second_due, told_both, counted_told}
+use Rattle.sc_line.proofs.PartLaws.{steps_then, told_then, second_due, told_both, counted_told}
 use Rattle.sc_text.specs.declared.limits.TheConstants.{VERSION_1}
 use Rattle.sc_text.specs.Words.{a_word}
 use Rattle.sc_text.specs.ValueLines.{Quotient, a_value}
@@ -153,7 +153,3 @@ start_due f body e d = λ i. and_then (both_due (e i) (λ x. both_due (one_due a
 pub if_none : {T : Type 0} {P : Type 0} (o : Option T) → P → IfNone o P
 if_none None p = p
 if_none (Some x) p = tt
-
-pub none_weaker : {T : Type 0} {P Q : Type 0} (o : Option T) → (P → Q) → IfNone o P → IfNone o Q
-none_weaker None f h = f h
-none_weaker (Some x) f h = tt

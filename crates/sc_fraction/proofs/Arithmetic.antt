@@ -1,5 +1,5 @@
 -- Sums, products and ratios of quotients, by cross products.
-use Rattle.std.proofs.Common.{◌≡◌, ℕ, zero, suc, ◌*◌, ◌<◌, List, [], ◌∷◌, ◌++◌, ℤ, pos, negsuc, ◌+ℤ◌, ◌-ℤ◌, ◌*ℤ◌, neg_ℤ, ◌<ℤ◌, unsigned_abs, int_div, inl, inr, refl, sym, ap, ap₂, ◌∙◌, subst, subst₂, arith, mul-one, mul_comm}
+use Rattle.std.proofs.Common.{◌≡◌, ℕ, zero, suc, ◌*◌, ◌<◌, List, [], ◌∷◌, ◌++◌, ℤ, pos, negsuc, ◌+ℤ◌, ◌-ℤ◌, ◌*ℤ◌, neg_ℤ, ◌<ℤ◌, unsigned_abs, int_div, inr, refl, sym, ap, ap₂, ◌∙◌, subst, subst₂, arith, mul-one, mul_comm}
 use Rattle.std.specs.Int.{◌∣◌, IsGcd}
 use Rattle.std.proofs.lemmas.Int.{ints, unsigned_abs-mul}
 use Rattle.std.proofs.lemmas.Nat.Gcd.{dvd_trans, same_from_IsGcd, IsGcd-swap}
@@ -174,11 +174,6 @@ ratio_quotient n d a b x t c e t_pos turned product =
 pub AllFit-append : (xs ys : List Wide) → AllFit xs → AllFit ys → AllFit (xs ++ ys)
 AllFit-append [] ys p q = q
 AllFit-append (x ∷ xs) ys p q = (p.0, AllFit-append xs ys p.1 q)
-
-pub first_wide_before : (xs ys : List Wide) (w : Wide) → IsFirstWide xs w → IsFirstWide (xs ++ ys) w
-first_wide_before [] ys w h = absurd h
-first_wide_before (x ∷ xs) ys w (inl p) = inl p
-first_wide_before (x ∷ xs) ys w (inr p) = inr (p.0, first_wide_before xs ys w p.1)
 
 pub first_wide_after : (xs ys : List Wide) (w : Wide) → AllFit xs → IsFirstWide ys w → IsFirstWide (xs ++ ys) w
 first_wide_after [] ys w p h = h

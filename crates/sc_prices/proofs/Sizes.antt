@@ -3,7 +3,6 @@ use Rattle.std.proofs.Common.{◌≡◌, ◌≢◌, ◌↔◌, IsTrue, nat_eq, �
 use Rattle.std.specs.Int.{w128}
 use borrow.Author.Tests.{eqb-true}
 use Rattle.std.proofs.lemmas.Bool.{eq-eqb}
-use Rattle.std.proofs.Math.Seq.{take-length}
 use Rattle.std.proofs.lemmas.Int.{ints}
 use Rattle.std.proofs.lemmas.List.Sums.{sum_by_more, sum_by-take-le}
 use Rattle.sc_algebra.proofs.Ints.{mul_comm, mul_neg, pos-mul, pos-le, mul-le_left, mul-le_right, mul_assoc}
@@ -63,9 +62,6 @@ module _ (c : Chain) (w : ℕ) (x y : ℤ) (small : IsSmallChain c) (inside : w 
 
   pub total_fits : FitsSigned w128 (x +ℤ y)
   total_fits = prices_fit (weighted_length (take (w + 1) c)) (x +ℤ y) (omega (arith, weights_most c (w + 1), small.light)) total_more
-
-pub total_all : (c : Chain) (x : ℤ) (w : ℕ) → w ≡ length c → IsOfPrices (weighted_length (take w c)) x → IsOfPrices (weighted_length c) x
-total_all c x w all h = subst (λ (d : Chain). IsOfPrices (weighted_length d) x) (ap (λ (k : ℕ). take k c) all ∙ take-length c) h
 
 pub sum_more : (f : ℕ → ℤ) (w : ℕ) (x y : ℤ) → x ≡ sum_below f w → y ≡ f w → x +ℤ y ≡ sum_below f (w + 1)
 sum_more f w x y before here =

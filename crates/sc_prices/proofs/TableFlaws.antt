@@ -8,8 +8,8 @@ use Rattle.sc_theory.specs.Walks.{IsStep}
 use Rattle.sc_theory.specs.Prices.{Prices, Tables, entry, price, Vouch}
 use Rattle.sc_prices.specs.declared.flaws.TableFlaw.{TableFlaw}
 use Rattle.sc_prices.specs.declared.flaws.TableFlaw.TheVariants.{Start, Step}
-use Rattle.sc_prices.specs.Flaws.{HasStartFlaw, HasStepFlaw, HasTableFlaw, IsAbove, Undercuts, IsBefore, IsFirstTableFlaw}
-use Rattle.sc_prices.specs.Rows.{start_of, IsFirstFrom, IsFirstInRow}
+use Rattle.sc_prices.specs.Flaws.{HasStepFlaw, HasTableFlaw, IsAbove, Undercuts, IsBefore, IsFirstTableFlaw}
+use Rattle.sc_prices.specs.Rows.{start_of}
 
 is_zero_or : (e : Option ℤ) → (e ≡ Some (pos 0)) ⊎ (e ≢ Some (pos 0))
 is_zero_or None = inr (λ h. cc)
@@ -82,31 +82,9 @@ first_flaw_alone c list tables f g a b =
 
 -- ---- row by row
 
-pub before_in_rows : (f g : TableFlaw) → IsBefore f g → (start_of f < start_of g) ⊎ (start_of f ≡ start_of g)
-before_in_rows (Start s) (Start t) h = inl h
-before_in_rows (Start s) (Step t k l) h = elim (cases_eq s t) [ inl e ↦ inr e | inr f ↦ inl (omega (arith, f, h)) ]
-before_in_rows (Step s i j) (Start t) h = inl h
-before_in_rows (Step s i j) (Step t k l) (inl h) = inl h
-before_in_rows (Step s i j) (Step t k l) (inr h) = inr h.0
-
 -- the rows before that of s have no flaw
 pub record AreFlawlessBefore (c : Chain) (list : Prices) (tables : Tables) (s : ℕ) : Type 0 where
   pub none : (flaw : TableFlaw) → start_of flaw < s → ¬ HasTableFlaw c list tables flaw
-
-pub first_over_rows : (c : Chain) (list : Prices) (tables : Tables) (s : ℕ) (flaw : TableFlaw) → AreFlawlessBefore c list tables s → IsFirstFrom c list tables s flaw → IsFirstTableFlaw c list tables flaw
-first_over_rows c list tables s flaw rows here = record {
-  here = here.here;
-  before = λ other h.
-      elim (before_in_rows other flaw h) [
-        | inl less ↦ rows.none other (omega (arith, less, here.row))
-        | inr same ↦ here.before other (same ∙ here.row) h
-      ];
-}
-
-pub one_row_more : (c : Chain) (list : Prices) (tables : Tables) (s : ℕ) → AreFlawlessBefore c list tables s → IsFirstInRow c list tables s None → AreFlawlessBefore c list tables (s + 1)
-one_row_more c list tables s rows here = record {
-  none = λ flaw less. elim (cases_eq (start_of flaw) s) [ inl e ↦ here flaw e | inr f ↦ rows.none flaw (omega (arith, less, f)) ];
-}
 
 flaw_inside : (c : Chain) (list : Prices) (tables : Tables) (flaw : TableFlaw) → HasTableFlaw c list tables flaw → start_of flaw < positions c
 flaw_inside c list tables (Start s) h = h.start
@@ -121,29 +99,6 @@ all_rows c list tables s past rows =
 -- the steps of the row of s that begin before i have no flaw
 pub record AreStepsFlawless (c : Chain) (list : Prices) (tables : Tables) (s i : ℕ) : Type 0 where
   pub none : (k l : ℕ) → k < i → ¬ HasStepFlaw c list tables s k l
-
-pub start_is_first : (c : Chain) (list : Prices) (tables : Tables) (s : ℕ) → HasStartFlaw c tables s → IsFirstFrom c list tables s (Start s)
-start_is_first c list tables s here = record { row = refl; here = here; before = not_earlier }
-  where
-    not_earlier : (other : TableFlaw) → start_of other ≡ s → IsBefore other (Start s) → ¬ HasTableFlaw c list tables other
-    not_earlier (Start t) e h = absurd (omega (arith, e, h))
-    not_earlier (Step t k l) e h = absurd (omega (arith, e, h))
-
-pub step_is_first : (c : Chain) (list : Prices) (tables : Tables) (s i j : ℕ) → entry tables s s ≡ Some (pos 0) → AreStepsFlawless c list tables s i
-    → HasStepFlaw c list tables s i j → ((l : ℕ) → l < j → ¬ HasStepFlaw c list tables s i l) → IsFirstFrom c list tables s (Step s i j)
-step_is_first c list tables s i j zero_there steps here ends = record { row = refl; here = here; before = not_earlier }
-  where
-    not_earlier : (other : TableFlaw) → start_of other ≡ s → IsBefore other (Step s i j) → ¬ HasTableFlaw c list tables other
-    not_earlier (Start t) e h = λ f. f.not_zero (subst (λ (x : ℕ). entry tables x x ≡ Some (pos 0)) (sym e) zero_there)
-    not_earlier (Step t k l) e (inl h) = absurd (omega (arith, e, h))
-    not_earlier (Step t k l) e (inr (same, inl h)) = λ f. steps.none k l h (subst (λ (x : ℕ). HasStepFlaw c list tables x k l) e f)
-    not_earlier (Step t k l) e (inr (same, inr (d, h))) = λ f.
-        ends l h (subst (λ (x : ℕ). HasStepFlaw c list tables s x l) d (subst (λ (x : ℕ). HasStepFlaw c list tables x k l) e f))
-
-pub row_flawless : (c : Chain) (list : Prices) (tables : Tables) (s i : ℕ) → entry tables s s ≡ Some (pos 0) → positions c ≤ i → AreStepsFlawless c list tables s i → IsFirstInRow c list tables s None
-row_flawless c list tables s i zero_there past steps (Start t) e = λ f. f.not_zero (subst (λ (x : ℕ). entry tables x x ≡ Some (pos 0)) (sym e) zero_there)
-row_flawless c list tables s i zero_there past steps (Step t k l) e = λ f.
-    steps.none k l (omega (arith, past, f.step.from)) (subst (λ (x : ℕ). HasStepFlaw c list tables x k l) e f)
 
 pub one_begin_more : (c : Chain) (list : Prices) (tables : Tables) (s i : ℕ) → AreStepsFlawless c list tables s i → ((l : ℕ) → ¬ HasStepFlaw c list tables s i l) → AreStepsFlawless c list tables s (i + 1)
 one_begin_more c list tables s i steps here = record {
