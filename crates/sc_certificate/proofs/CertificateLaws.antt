@@ -66,12 +66,14 @@ module _ (m : Limits) (c : Chain) (small : IsChainFor m.words m.positions c) whe
 
 -- ---- the body, and the whole
 
+-- what the lines behind the value may tell under limits: each part in its range and of the size of the chain
 abbrev pub IsBodyFor : Limits → Chain → BodyTold → Type 0
 IsBodyFor m c v =
     IsCountInRange 1 m.copies v.first × (AreSidesFor m.sides v.second.first × (IsScaleInRange v.second.second.first
     × (AreAll IsPriceInRange (length c) v.second.second.second.first × (AreAll IsPriceInRange (length (pairs c)) v.second.second.second.second.first
     × (AreAll (IsRowInRange (positions c)) (positions c) v.second.second.second.second.second.first × (AreFew (IsPivotInRange c) m.pivots v.second.second.second.second.second.second.first × Unit {0}))))))
 
+-- the most lines that are read behind the value
 abbrev pub body_most : Limits → ℕ
 body_most m = 1 + (suc m.sides + (1 + (m.words + (m.positions * m.positions + (m.positions + (suc m.pivots + 1))))))
 
@@ -88,15 +90,19 @@ lawful_body m c small =
 lawful_from_value : (m : Limits) (c : Chain) → IsChainFor m.words m.positions c → IsLawful (from_value m c).lines ((from_value m c).due (record { first = None; second = no_body })) (λ v. IsValueInRange v.first × IsBodyFor m c v.second) (1 + body_most m)
 lawful_from_value m c small = lawful_both _ _ _ _ (λ q. (body_form m c).lines) _ _ _ lawful_value (λ q h. lawful_body m c small)
 
+-- what the heading and the words may tell
 abbrev pub IsFrontFor : Limits → FrontTold → Type 0
 IsFrontFor m v = Unit {0} × IsChainFor m.words m.positions v.second
 
+-- the form of the heading and the words is lawful: what is read are the chains within the limits
 pub lawful_front : (m : Limits) → IsLawful (front_form m).lines ((front_form m).due (record { first = false; second = uncounted })) (IsFrontFor m) (1 + suc m.words)
 lawful_front m = lawful_both _ _ _ _ (λ u. (words_form m).lines) _ _ _ (lawful_literal heading refl) (λ u h. lawful_words m)
 
+-- what all the parts of a certificate may tell under limits
 abbrev pub IsToldFor : Limits → Told → Type 0
 IsToldFor m v = IsFrontFor m v.first × (IsValueInRange v.second.first × IsBodyFor m v.first.second v.second.second)
 
+-- the most lines that are read of them
 abbrev pub told_most : Limits → ℕ
 told_most m = (1 + suc m.words) + (1 + body_most m)
 
@@ -148,12 +154,15 @@ in_range_told v h = (
   ),
 )
 
+-- the most lines that a certificate of version 1 has
 abbrev pub all_lines : ℕ
 all_lines = told_most VERSION_1 + 0
 
+-- the form of certificates is lawful: what is read are the certificates in range
 pub lawful_certificate : IsLawful (certificate_form VERSION_1).lines (certificate_due VERSION_1) IsCertificateInRange all_lines
 lawful_certificate =
     lawful_as _ _ (IsToldFor VERSION_1) (told_most VERSION_1) certificate_told told_by IsCertificateInRange (lawful_told VERSION_1) (λ v. refl) (λ w. refl) certificate_in_range in_range_told
 
+-- at most 4000000000 lines of a certificate are read, which its reader can count
 pub short_certificate : IsShort 4000000000 (certificate_due VERSION_1)
 short_certificate = short_more all_lines 4000000000 (certificate_due VERSION_1) (omega arith) lawful_certificate.short

@@ -23,6 +23,7 @@ use Rattle.sc_certificate.proofs.CertificateLaws.{lawful_front}
 
 -- ---- the heading and the words
 
+-- with a line more, which is read or refused without a change, what is due still follows lines that were read
 pub reached_more : {E : Type 0} (r : Result (Unit {0}) E) (f f' : Format FrontTold) (line : Line) → OnOk r (Steps f f' line) → OnErr r (f' ≡ f) → IsReached f → IsReached f'
 reached_more (Ok u) f f' line step same h = record { lines = h.lines ++ line ∷ []; reads = reads_append front_start f f' h.lines (line ∷ []) h.reads (one_step f f' line step) }
 reached_more (Err e) f f' line step same h = subst IsReached (sym same) h
@@ -42,6 +43,7 @@ words_told p whole = by_heading p.headed whole
         let all = counted_told p.name p.most kind p.words.count p.words.items (sym (second_due (told tt) words refl) ∙ h) in
         told_both (told tt) words tt p.words.items refl all
 
+-- where the heading and all words were read, the words are a chain in range
 pub words_in_range : (p : FrontSoFar) → IsReached (front_at p) → is_told (front_at p) ≡ true → IsChainInRange p.words.items
 words_in_range p h whole =
     let r = h.reads in
@@ -71,14 +73,17 @@ module _ (f : Format FrontTold) (o : Option ChainAndValue) (h : ChainAndValue) (
   unfolding lines_at
   at_head body = ap (λ (p : Option ChainAndValue). lines_at f p body) some
 
+  -- behind a head the certificate is told exactly where the body is
   pub body_told : (body : ChainAndValue → Format BodyTold) → is_told (lines_at f o body) ≡ is_told (body h)
   body_told body = ap (λ (g : Format Certificate). is_told g) (at_head body) ∙ behind_told (and_also tt h.chain) h.value (body h)
 
+  -- a line that the body reads is read
   pub body_steps : (body body' : ChainAndValue → Format BodyTold) (line : Line) → Steps (body h) (body' h) line → Steps (lines_at f o body) (lines_at f o body') line
   body_steps body body' line s =
       subst (λ (g : Format Certificate). Steps g (lines_at f o body') line) (sym (at_head body))
       (subst (λ (g : Format Certificate). Steps (behind (and_also tt h.chain) h.value (body h)) g line) (sym (at_head body')) (behind_steps (and_also tt h.chain) h.value (body h) (body' h) line s))
 
+  -- a line has the fault that the body finds
   pub body_fault : (body : ChainAndValue → Format BodyTold) (line : Line) (e : LineFault) → is_told (body h) ≡ false → IsFault (fault_due (body h) line) e → IsFault (fault_due (lines_at f o body) line) e
   body_fault body line e due bad =
       subst (λ (g : Format Certificate). IsFault (fault_due g line) e) (sym (at_head body)) (behind_fault (and_also tt h.chain) h.value (body h) line e due bad)
@@ -86,9 +91,11 @@ module _ (f : Format FrontTold) (o : Option ChainAndValue) (h : ChainAndValue) (
   body_done : (body : ChainAndValue → Format BodyTold) (b : BodyTold) → body h ≡ told b → lines_at f o body ≡ told (certificate_told (and_also (and_also tt h.chain) (and_also h.value b)))
   body_done body b e = at_head body ∙ ap (behind (and_also tt h.chain) h.value) e
 
+  -- with the body told, the certificate is told: the head's chain and value, and what the body tells
   pub body_done_as : (body : ChainAndValue → Format BodyTold) (b : BodyTold) (c : Chain) (q : Quotient) → c ≡ h.chain → q ≡ h.value → body h ≡ told b → lines_at f o body ≡ told (certificate_told (and_also (and_also tt c) (and_also q b)))
   body_done_as body b c q chain value e = body_done body b e ∙ (λ i. told (certificate_told (and_also (and_also tt (sym chain i)) (and_also (sym value i) b))))
 
+  -- where the same is due of the body, the same is due
   pub body_same : (body body' : ChainAndValue → Format BodyTold) → body' h ≡ body h → lines_at f o body' ≡ lines_at f o body
   body_same body body' e = at_head body' ∙ ap (behind (and_also tt h.chain) h.value) e ∙ sym (at_head body)
 
@@ -103,9 +110,11 @@ module _ (o : Option ChainAndValue) (none : o ≡ None) (body : ChainAndValue �
   headless (told x) = refl
   headless (a_line fault next) = refl
 
+  -- without a head no certificate is told
   pub valueless : (f : Format FrontTold) → is_told (lines_at f o body) ≡ false
   valueless f = ap (λ (g : Format Certificate). is_told g) (no_head f) ∙ headless f
 
+  -- a line that is read as one of the heading and the words is read
   pub front_steps : (f f' : Format FrontTold) (line : Line) → Steps f f' line → Steps (lines_at f o body) (lines_at f' o body) line
   unfolding lines_at
   front_steps f f' line s =
@@ -116,6 +125,7 @@ module _ (o : Option ChainAndValue) (none : o ≡ None) (body : ChainAndValue �
       steps_now (told x) s = absurd (none-some _ (sym s.good))
       steps_now (a_line fault next) s = record { good = s.good; next = ap (λ (h : Format FrontTold). lines_at h None body) s.next }
 
+  -- a line has the fault that is found there
   pub front_fault : (f : Format FrontTold) (line : Line) (e : LineFault) → is_told f ≡ false → IsFault (fault_due f line) e → IsFault (fault_due (lines_at f o body) line) e
   unfolding lines_at
   front_fault f line e due bad = subst (λ (g : Format Certificate). IsFault (fault_due g line) e) (sym (no_head f)) (fault_now f due bad)
@@ -124,9 +134,11 @@ module _ (o : Option ChainAndValue) (none : o ≡ None) (body : ChainAndValue �
       fault_now (told x) due bad = absurd (false≢true (sym due))
       fault_now (a_line fault next) due bad = bad
 
+  -- where the same is due of the heading and the words, the same is due
   pub front_same : (f f' : Format FrontTold) → f' ≡ f → lines_at f' o body ≡ lines_at f o body
   front_same f f' e = ap (λ (g : Format FrontTold). lines_at g o body) e
 
+  -- behind all words the line of a value is read, and what is due then goes by the head of chain and value
   pub value_steps : (f f' : Format FrontTold) (c : Chain) (line : Line) (h : ChainAndValue) → f ≡ told (and_also tt c) → h.chain ≡ c → Tells a_value line h.value → Steps (lines_at f o body) (lines_at f' (Some h) body) line
   unfolding lines_at
   value_steps f f' c line h e chain t =
@@ -137,6 +149,7 @@ module _ (o : Option ChainAndValue) (none : o ≡ None) (body : ChainAndValue �
       } in
       subst (λ (g : Format Certificate). Steps g (lines_at f' (Some h) body) line) now step
 
+  -- behind all words the fault of a line is that of a value
   pub value_fault : (f : Format FrontTold) (c : Chain) (line : Line) (e : LineFault) → f ≡ told (and_also tt c) → IsFault (a_value.fault line) e → IsFault (fault_due (lines_at f o body) line) e
   unfolding lines_at
   value_fault f c line e whole bad =

@@ -64,6 +64,7 @@ pivot_in-pivot_line p = rw (fields-pivot_line p, number_of-spelling (pos p.row),
 
 -- ---- lines by their fault
 
+-- a field spells a natural number
 pub record IsNaturalField (f : Field) : Type 0 where
   pub natural : ℕ
   pub is : f ≡ spelling (pos natural)
@@ -73,6 +74,7 @@ natural_field f None e h = absurd (false≢true h)
 natural_field f (Some (pos n)) e h = record { natural = n; is = number_of_is f (pos n) e }
 natural_field f (Some (negsuc n)) e h = absurd (false≢true h)
 
+-- each field spells one
 pub record AreNaturalFields (fs : List Field) : Type 0 where
   pub naturals : List ℕ
   pub are : fs ≡ numbers naturals
@@ -85,6 +87,7 @@ natural_fields (f ∷ fs) h =
     let rest = natural_fields fs both.1 in
     record { naturals = first.natural ∷ rest.naturals; are = λ i. first.is i ∷ rest.are i }
 
+-- a field spells a natural number below n
 pub record IsBelow (n : ℕ) (f : Field) : Type 0 where
   pub natural : ℕ
   pub is : f ≡ spelling (pos natural)
@@ -125,14 +128,17 @@ pivot_inverse c line h =
     let named = named_inverse (codes "pivot") (pivot_fault c) line h in
     pivot_from c line named.rest named.fields named.good
 
+-- the lines of pivots without a fault are exactly those of the pivots in range, and tell them
 pub pivot_kind : (c : Chain) → IsLineKind (pivot_row c) pivot_in pivot_line (IsPivotInRange c)
 pivot_kind c = kind_from (pivot_row c) pivot_in pivot_line (IsPivotInRange c) (good_pivot c) (λ p in_range. pivot_in-pivot_line p) (pivot_inverse c)
 
 -- ---- fields that are no positions
 
+-- a field that is no number is no position of a small chain
 pub no_position : (f : Field) → number_of f ≡ None → IsNoPosition f
 no_position f none n few e = none-some (pos n) (sym none ∙ number_of_from f (pos n) e)
 
+-- nor is a field whose number is out of the range from 0 to the most positions
 pub far_position : (f : Field) (number : Option ℤ) → TellsNumber f number → ((z : ℤ) → IsNarrowed z number → between 0 MAX_POSITIONS z ≡ false) → IsNoPosition f
 far_position f number t far n few e =
     let value : t.value ≡ pos n = same_Some t.value (pos n) (sym t.spells ∙ number_of_from f (pos n) e) in
@@ -189,10 +195,12 @@ module _ (c : Chain) (fs : List Field) (before : List ℕ) (f : Field) (after : 
 
 -- ---- the fault of the fields of a pivot
 
+-- a pivot whose first field is no number has the fault Form
 pub row_missing : (c : Chain) (fs : List Field) → first_number fs ≡ None → pivot_fault c fs ≡ Some Form
 row_missing c [] h = refl
 row_missing c (f ∷ fs) h = rw h refl
 
+-- behind a row that is a number, the fault of the walk is that of the pivot
 pub walk_bad : (c : Chain) (f : Field) (fs : List Field) (z : ℤ) (k : Kind) → number_of f ≡ Some z → walk_fault c fs ≡ Some k → pivot_fault c (f ∷ fs) ≡ Some k
 walk_bad c f fs z k e h =
     elim (cases_Bool (are_naturals fs && is_polygon c (naturals_of fs))) [
@@ -200,6 +208,7 @@ walk_bad c f fs z k e h =
       | inr others ↦ rw (e, others) (let fault : Some Form ≡ Some k = rw others at h in fault)
     ]
 
+-- with a polygon behind it, a row that the chain doesn't have has the fault Range
 pub row_far : (c : Chain) (f : Field) (fs : List Field) (z : ℤ) → number_of f ≡ Some z → walk_fault c fs ≡ None → is_below (rows c) z ≡ false → pivot_fault c (f ∷ fs) ≡ Some Range
 row_far c f fs z e h far =
     elim (cases_Bool (are_naturals fs && is_polygon c (naturals_of fs))) [
@@ -237,6 +246,7 @@ module _ (c : Chain) (line : Line) (fs : List Field) (named : fields line ≡ co
   line_row_far rest number walk t e polygon far =
       named_is (codes "pivot") (pivot_fault c) line fs named ∙ ap (pivot_fault c) t.taken ∙ row_far c t.field rest t.value t.spells (ap (walk_fault c) e ∙ polygon_fields c walk polygon) (far t.value t.narrowed)
 
+  -- a line of the fields of a row and of positions is that of the pivot
   pub line_of_pivot : (rest : List Field) (number : Option ℤ) (row : ℕ) (walk : List ℕ) → TakesNumber fs rest number → number ≡ Some (pos row) → rest ≡ numbers walk → line ≡ pivot_line (record { row = row; polygon = walk })
   line_of_pivot rest number row walk t is e =
       line_from_fields line _ (named ∙ ap (λ (gs : List Field). codes "pivot" ∷ gs) (taken_is fs rest number (pos row) t is ∙ ap (λ (gs : List Field). spelling (pos row) ∷ gs) e))

@@ -36,6 +36,7 @@ from_lines_are k n before (row ∷ rows) at =
     let rest = from_lines_are k (n + 1) (before ++ row ∷ []) rows (omega (arith, length_push before row)) in
     λ i. from_line (at i) row ∷ rest i
 
+-- with a price for each pair, the lines of a certificate are those spelled out
 pub same_lines : (v : Certificate) → length v.list.pair ≡ length (pairs v.chain) → certificate_lines v ≡ spelled_lines v
 same_lines v count =
     let words = lines_map (λ (c : Chain). a_word (VERSION_1.positions - positions c)) word_line (λ b w. refl) [] v.chain in

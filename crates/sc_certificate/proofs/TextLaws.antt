@@ -18,38 +18,47 @@ use Rattle.sc_certificate.specs.Certificates.{Certificate, certificate_form, cer
 use Rattle.sc_certificate.specs.CertificateRead.{certificate_of, IsCertificateRead}
 use Rattle.sc_certificate.proofs.CertificateLaws.{all_lines, lawful_certificate}
 
+-- the text of a certificate in range has no fault
 pub text_is_faultless : (v : Certificate) → IsCertificateInRange v → IsFaultless certificate_plan (certificate_text v)
 unfolding certificate_plan
 text_is_faultless = texts.text_is_faultless (certificate_form VERSION_1).lines (certificate_due VERSION_1) IsCertificateInRange all_lines lawful_certificate
 
+-- a text without a fault is that of a certificate in range
 pub faultless_is_text : (text : List ℕ) → IsFaultless certificate_plan text → (v : Certificate) × IsCertificateInRange v × (text ≡ certificate_text v)
 unfolding certificate_plan
 faultless_is_text = texts.faultless_is_text (certificate_form VERSION_1).lines (certificate_due VERSION_1) IsCertificateInRange all_lines lawful_certificate
 
+-- certificates in range that have the same text are the same
 pub text_is_of_one : (v w : Certificate) → IsCertificateInRange v → IsCertificateInRange w → certificate_text v ≡ certificate_text w → v ≡ w
 text_is_of_one = texts.text_is_of_one (certificate_form VERSION_1).lines (certificate_due VERSION_1) IsCertificateInRange all_lines lawful_certificate
 
 -- ---- a certificate that was read
 
+-- a certificate that the lines told, or a fault of the text, is what a reader of certificates answers
 pub certificate_read : (bytes : List ℕ) (r : Result CertificateText TextFault) → IfOk r (λ t. IsToldBy (certificate_due VERSION_1) bytes (certificate_of t)) → IfErr r (IsFaultOf (plan_of (certificate_due VERSION_1)) bytes) → IsCertificateRead bytes r
 certificate_read bytes r = texts.text_of_read (certificate_form VERSION_1).lines (certificate_due VERSION_1) IsCertificateInRange all_lines lawful_certificate bytes certificate_of r
 
 module _ (bytes : List ℕ) (r : Result CertificateText TextFault) (read : IsCertificateRead bytes r) where
+  -- a text that was read has no fault
   pub is_faultless : OnOk r (IsFaultless certificate_plan bytes)
   unfolding certificate_plan
   is_faultless = texts.faultless (certificate_form VERSION_1).lines (certificate_due VERSION_1) IsCertificateInRange all_lines lawful_certificate bytes certificate_of r read
 
+  -- a refusal names the first fault of the text, or want of memory
   pub is_malformed : IfErr r (IsFaultOf certificate_plan bytes)
   unfolding certificate_plan
   is_malformed = read.malformed
 
+  -- a text with a fault is refused, by its first fault or for want of memory
   pub only_first : (line : ℕ) (kind : Kind) → IsFirstFault certificate_plan bytes line kind → IsErrAnd r (λ e. (e ≡ text_faults.Malformed line kind) ⊎ (e ≡ text_faults.Memory))
   unfolding certificate_plan
   only_first line kind first = texts.only (certificate_form VERSION_1).lines (certificate_due VERSION_1) IsCertificateInRange all_lines lawful_certificate bytes certificate_of r read line kind first
 
+  -- what is read of the text of a certificate in range is that certificate
   pub is_same : (v : Certificate) → IsCertificateInRange v → bytes ≡ certificate_text v → IfOk r (λ t. certificate_of t ≡ v)
   is_same = texts.reads_again (certificate_form VERSION_1).lines (certificate_due VERSION_1) IsCertificateInRange all_lines lawful_certificate bytes certificate_of r read
 
+  -- the text of a certificate in range is refused for want of memory alone
   pub is_memory : (v : Certificate) → IsCertificateInRange v → bytes ≡ certificate_text v → IfErr r (λ e. e ≡ text_faults.Memory)
   is_memory = texts.memory (certificate_form VERSION_1).lines (certificate_due VERSION_1) IsCertificateInRange all_lines lawful_certificate bytes certificate_of r read
 
@@ -60,9 +69,11 @@ printed_is_read v (Err e) h read = is_memory (certificate_text v) (Err e) read v
 
 -- ---- what its parts told
 
+-- a certificate that lines told is in range
 pub told_in_range : (f : Format Certificate) (bytes : List ℕ) (v : Certificate) → f ≡ certificate_due VERSION_1 → IsToldBy f bytes v → IsCertificateInRange v
 told_in_range f bytes v e t = lawful_certificate.in_range t.lines v (subst (λ (g : Format Certificate). Reads g t.lines (told v)) e t.reads)
 
+-- tables of rows in range have entries in range
 pub small_tables : (n : ℕ) (tables : Tables) → AllByRecursion (IsRowInRange n) tables → AreSmallTables tables
 small_tables n [] h = tt
 small_tables n (row ∷ tables) h = (h.0.entries_in_range, small_tables n tables h.1)

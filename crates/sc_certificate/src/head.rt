@@ -52,6 +52,7 @@ fn chain_of(alloc: Global, words: &[(u32, Word)]) -> Result<Chain, AllocError>
 {
     match Chain::of_reduced(alloc, copy_words(alloc, words)?) {
         Ok(chain) => Ok(chain),
+        // a match of its own, in whose last arm the fault is known not to be want of memory
         Err(fault) => match fault {
             ChainFault::Memory => Err(AllocError),
             _ => unreachable!(),

@@ -169,7 +169,7 @@ impl CertificateLines {
     }
 }
 
-// Reads by the parts.
+// Reads by the parts. A function of its own, as all clauses of `read_certificate_text` follow from this one.
 fn read_parts(alloc: Global, bytes: &[u8]) -> Result<CertificateText, TextFault>
     ensures { IsCertificateRead bytes.now result }
 {

@@ -118,6 +118,7 @@ impl Tables {
         ensures ok { OnOk result (self.new ≡ self.old ++ row ∷ []) }
         ensures err { OnErr result (self.new ≡ self.old) }
     {
+        // a look at the row, so that its invariant is known: its entries are in their range
         let _ = &row.entries;
         self.rows.push(row)?;
         Ok(())

@@ -53,6 +53,7 @@ size_positive z h = omega (arith, ints)
 
 -- signs
 
+-- turning the sign leaves the size
 pub size-neg : (z : ℤ) → unsigned_abs (neg_ℤ z) ≡ unsigned_abs z
 size-neg (pos zero) = refl
 size-neg (pos (suc n)) = refl
@@ -65,6 +66,7 @@ pub size-turn : (q z : ℤ) → unsigned_abs (turn q z) ≡ unsigned_abs z
 size-turn (pos n) z = ap unsigned_abs (plain_turn n z)
 size-turn (negsuc n) z = size-neg z
 
+-- turned by its own sign, a number other than 0 is above 0
 pub turn_positive : (q : ℤ) → ¬ (q ≡ pos 0) → pos 0 <ℤ turn q q
 turn_positive (pos zero) h = absurd (h refl)
 turn_positive (pos (suc n)) h = subst (λ (t : ℤ). pos 0 <ℤ t) (sym (plain_turn (suc n) (pos (suc n)))) (omega (arith, ints))
@@ -73,10 +75,12 @@ turn_positive (negsuc n) h = omega (arith, ints)
 neg_mul : (a b : ℤ) → neg_ℤ a *ℤ b ≡ neg_ℤ (a *ℤ b)
 neg_mul a b = *ℤ_comm (neg_ℤ a) b ∙ mul-neg_z b a ∙ ap neg_ℤ (*ℤ_comm b a)
 
+-- a quotient whose two sides are turned by the sign of the second is the number that it was
 pub turned_quotient : (p q num den : ℤ) → SameQuotient p q num den → SameQuotient (turn q p) (turn q q) num den
 turned_quotient p (pos n) num den same = subst₂ (λ (s t : ℤ). SameQuotient s t num den) (sym (plain_turn n p)) (sym (plain_turn n (pos n))) same
 turned_quotient p (negsuc n) num den same = neg_mul p den ∙ ap neg_ℤ same ∙ sym (mul-neg_z num (negsuc n))
 
+-- a quotient in lowest terms stays so where both sides are turned
 pub turned_coprime : (p q : ℤ) → IsGcd (unsigned_abs p) (unsigned_abs q) 1 → IsGcd (unsigned_abs (turn q p)) (unsigned_abs (turn q q)) 1
 turned_coprime p q h = subst₂ (λ m n. IsGcd m n 1) (sym (size-turn q p)) (sym (size-turn q q)) h
 
@@ -94,6 +98,7 @@ scaled_quotient n m s d num den g hs hd same =
     out : (x : ℤ) → x *ℤ (pos g *ℤ d) ≡ pos g *ℤ (x *ℤ d)
     out x = sym (mul_assoc_z x (pos g) d) ∙ ap (λ (t : ℤ). t *ℤ d) (*ℤ_comm x (pos g)) ∙ mul_assoc_z (pos g) x d
 
+-- a number that is a sum over a common denominator is the sum over the product of the denominators
 pub sum_quotient : (n m a b c e scale other : ℤ) (g : ℕ) → pos g *ℤ scale ≡ e → pos g *ℤ other ≡ b
     → SameQuotient n m ((a *ℤ scale) +ℤ (c *ℤ other)) (b *ℤ scale) → SameQuotient n m ((a *ℤ e) +ℤ (c *ℤ b)) (b *ℤ e)
 sum_quotient n m a b c e scale other g hs ho same =
@@ -102,6 +107,7 @@ sum_quotient n m a b c e scale other g hs ho same =
     (common b e scale g hs)
     same
 
+-- the same of a difference
 pub difference_quotient : (n m a b c e scale other : ℤ) (g : ℕ) → pos g *ℤ scale ≡ e → pos g *ℤ other ≡ b
     → SameQuotient n m ((a *ℤ scale) -ℤ (c *ℤ other)) (b *ℤ scale) → SameQuotient n m ((a *ℤ e) -ℤ (c *ℤ b)) (b *ℤ e)
 difference_quotient n m a b c e scale other g hs ho same =
@@ -140,6 +146,7 @@ coprime_product x y m p q = (
 size_divides : (g : ℕ) (p num : ℤ) → pos g *ℤ p ≡ num → unsigned_abs p ∣ unsigned_abs num
 size_divides g p num e = subst (λ n. unsigned_abs p ∣ n) (sym (size_of_product g p num e)) (dvd-mul_left (unsigned_abs p) g)
 
+-- two fractions in lowest terms, divided crosswise by what they have in common, have a product in lowest terms
 pub product_coprime : (a b c e p q r s : ℤ) (g h : ℕ) → pos g *ℤ p ≡ a → pos g *ℤ s ≡ e → pos h *ℤ q ≡ c → pos h *ℤ r ≡ b
     → 0 < g → 0 < h → IsGcd (unsigned_abs a) (unsigned_abs e) g → IsGcd (unsigned_abs c) (unsigned_abs b) h
     → IsGcd (unsigned_abs a) (unsigned_abs b) 1 → IsGcd (unsigned_abs c) (unsigned_abs e) 1
@@ -175,6 +182,7 @@ pub AllFit-append : (xs ys : List Wide) → AllFit xs → AllFit ys → AllFit (
 AllFit-append [] ys p q = q
 AllFit-append (x ∷ xs) ys p q = (p.0, AllFit-append xs ys p.1 q)
 
+-- where all steps before fit, the first wide one of those behind them is the first of all
 pub first_wide_after : (xs ys : List Wide) (w : Wide) → AllFit xs → IsFirstWide ys w → IsFirstWide (xs ++ ys) w
 first_wide_after [] ys w p h = h
 first_wide_after (x ∷ xs) ys w p h = inr (p.0, first_wide_after xs ys w p.1 h)
@@ -186,5 +194,6 @@ size_nonzero (pos zero) h = absurd (h refl)
 size_nonzero (pos (suc n)) h = omega arith
 size_nonzero (negsuc n) h = omega arith
 
+-- a number other than 0, divided, isn't 0
 pub divided_nonzero : (g : ℕ) (q den : ℤ) → pos g *ℤ q ≡ den → ¬ (den ≡ pos 0) → ¬ (q ≡ pos 0)
 divided_nonzero g q den e h z = h (sym e ∙ ap (λ (t : ℤ). pos g *ℤ t) z ∙ *ℤ-zero (pos g))

@@ -28,6 +28,7 @@ below_by_whole_part a b c e b_pos e_pos h =
     whole_below : (m n : ℕ) → m < n → m + 1 ≤ n
     whole_below m n k = omega arith
 
+-- quotients whose whole parts differ are in the order of these
 pub by_whole_parts : (a b c e : ℕ) → 0 < b → 0 < e → a / b ≢ c / e → nat_cmp (a / b) (c / e) ≡ nat_cmp (a * e) (c * b)
 by_whole_parts a b c e b_pos e_pos apart =
     elim (cases_order (a / b) (c / e)) [

@@ -31,6 +31,7 @@ use Rattle.sc_prices.proofs.TableFlaws.{first_flaw_alone, vouch_flawless}
 no_flaw : (v : Certificate) (kind : FlawKind) (place : ℕ) → IsFatgraph v.chain v.copies v.sides → IsFirstFailing v (Flaw kind place) → ⊥
 no_flaw v kind place g h = sides.fatgraph_has_none v.chain v.copies v.sides g kind place h.here
 
+-- only one condition is the first that fails
 pub one_failing : (v : Certificate) (x y : Condition) → IsFirstFailing v x → IsFirstFailing v y → x ≡ y
 one_failing v (Flaw k p) (Flaw l q) a b =
     let same = sides.first_flaw_alone v.chain v.copies v.sides k l p q a b in
@@ -51,6 +52,7 @@ one_failing v NotTight Value a b = absurd (b.value a.value)
 one_failing v NotTight (Table g) a b = absurd (vouch_flawless v.chain v.list v.tables a.tables g b.tables.here)
 one_failing v NotTight NotTight a b = refl
 
+-- where all conditions hold, none is the first that fails
 pub none_failing : (v : Certificate) (x : Condition) → IsFirstFailing v x → AllHold v → ⊥
 none_failing v (Flaw k p) a all = no_flaw v k p all.fatgraph a
 none_failing v Value a all = a.value all.value
@@ -89,6 +91,7 @@ pub chain_is : (c : Chain) → IsChainInRange c → IsChain c
 chain_is c h =
     let good = accepted c h in record { words = λ w inside. (good.good w inside).nonempty; reduced = λ w inside. (good.good w inside).reduced }
 
+-- a fatgraph of which all conditions hold, with a scale above 0, is least
 pub all_make_least : (v : Certificate) → IsChain v.chain → pos 0 <ℤ v.list.scale → AllHold v → IsLeast v.chain v.copies v.sides
 all_make_least v chain above all = least v.chain v.list v.copies v.sides chain above (covers v.chain v.list v.tables above all.tables) all.fatgraph all.tight
 
@@ -104,6 +107,7 @@ same_stated s y e =
     same_frac y s.value
     (ap (λ (z : ℤ × ℤ). numerator y *ℤ z.1) e ∙ ap (λ (z : ℤ × ℤ). z.0 *ℤ denominator y) (sym e))
 
+-- the verdict on a certificate in range tells what these clauses say
 pub verdict_tells : (s : CertificateParts) (x : Verdict) → IsCertificateInRange (certificate_of s) → IsVerdictOn (certificate_of s) x → Tells s x
 verdict_tells s (Optimal y) range (value, all) = record {
   optimal = λ _. ap Optimal (same_stated s y value);

@@ -23,6 +23,7 @@ at_least : (w k : ℕ) → 1 ≤ k → w ≤ w * k
 at_least w zero h = absurd (omega arith)
 at_least w (suc k) h = omega arith
 
+-- w times a price in range is at most w k prices in size, for a k that isn't 0
 pub prices_times : (w k : ℕ) (z : ℤ) → 1 ≤ k → IsPriceInRange z → IsOfPrices (w * k) (pos w *ℤ z)
 prices_times w k z some price =
     let more : (pos w *ℤ MAX_PRICE) ≤ℤ (pos (w * k) *ℤ MAX_PRICE) = mul-le_right _ (pos w) (pos (w * k)) (pos-le w (w * k) (at_least w k some)) in
@@ -30,9 +31,11 @@ prices_times w k z some price =
     let high : (pos w *ℤ z) ≤ℤ (pos w *ℤ MAX_PRICE) = mul-le_left w z MAX_PRICE price.high in
     record { low = omega (arith, ints); high = omega (arith, ints) }
 
+-- at most j prices and at most k, added up, are at most j + k
 pub prices_add : (j k : ℕ) (x y : ℤ) → IsOfPrices j x → IsOfPrices k y → IsOfPrices (j + k) (x +ℤ y)
 prices_add j k x y a b = record { low = omega (arith, ints, a.low, b.low); high = omega (arith, ints, a.high, b.high) }
 
+-- at most 2^32 prices in size fit into 128 bits
 pub prices_fit : (k : ℕ) (z : ℤ) → k ≤ 2 ^ 32 → IsOfPrices k z → FitsSigned w128 z
 prices_fit k z few h = omega (arith, ints, h.low, h.high, few)
 
@@ -40,9 +43,11 @@ prices_fit k z few h = omega (arith, ints, h.low, h.high, few)
 pub weights_more : (c : Chain) (w : ℕ) → w < length c → weighted_length (take (w + 1) c) ≡ weighted_length (take w c) + weight c w * length (word c w)
 weights_more c w inside = sum_by_more (λ (u : ℕ × Word). u.0 * length u.1) c w no_word inside
 
+-- the weighted length of the first words is at most that of the chain
 pub weights_most : (c : Chain) (w : ℕ) → weighted_length (take w c) ≤ weighted_length c
 weights_most c w = sum_by-take-le (λ (u : ℕ × Word). u.0 * length u.1) c w
 
+-- each word of a chain has a letter
 pub some_letters : (c : Chain) (w : ℕ) → IsChain c → w < length c → 1 ≤ length (word c w)
 some_letters c w chain inside = nonempty (word c w) (chain.words w inside)
   where
@@ -57,12 +62,14 @@ price_times_fits w f z is small price =
 
 module _ (c : Chain) (w : ℕ) (x y : ℤ) (small : IsSmallChain c) (inside : w < length c)
     (before : IsOfPrices (weighted_length (take w c)) x) (here : IsOfPrices (weight c w * length (word c w)) y) where
+  -- with one word more, a total is of at most as many prices as the weighted length of these words, and fits
   pub total_more : IsOfPrices (weighted_length (take (w + 1) c)) (x +ℤ y)
   total_more = subst (λ (k : ℕ). IsOfPrices k (x +ℤ y)) (sym (weights_more c w inside)) (prices_add _ _ x y before here)
 
   pub total_fits : FitsSigned w128 (x +ℤ y)
   total_fits = prices_fit (weighted_length (take (w + 1) c)) (x +ℤ y) (omega (arith, weights_most c (w + 1), small.light)) total_more
 
+-- a sum and the next term make the sum with one term more
 pub sum_more : (f : ℕ → ℤ) (w : ℕ) (x y : ℤ) → x ≡ sum_below f w → y ≡ f w → x +ℤ y ≡ sum_below f (w + 1)
 sum_more f w x y before here =
     ap (λ (z : ℤ). z +ℤ y) before ∙ ap (λ (z : ℤ). sum_below f w +ℤ z) here ∙ ap (sum_below f) (sym (add-one w))
@@ -81,6 +88,7 @@ entry_and_price a p entry price =
 
 -- ---- tightness
 
+-- a scale, as often as a count of 32 bits says, fits into 128 bits
 pub scale_times_fits : (d f : ℤ) (v : ℕ) → IsScaleInRange d → f ≡ pos v → v < 2 ^ 32 → FitsSigned w128 (d *ℤ f)
 scale_times_fits d f v scale is few =
     let price : IsPriceInRange d = record { low = omega (arith, ints, scale.low); high = scale.high } in
@@ -96,6 +104,7 @@ prices_scaled n k z h =
       high = subst (λ (x : ℤ). (pos n *ℤ z) ≤ℤ x) same high;
     }
 
+-- a total of at most as many prices as the weighted length of a chain, as often as a surface has copies, fits
 pub copies_times_fits : (c : Chain) (n v : ℕ) (f z : ℤ) → AreVertices c n v → f ≡ pos n → IsOfPrices (weighted_length c) z → FitsSigned w128 (f *ℤ z)
 copies_times_fits c n v f z (g, surface, count) is small =
     let sides : length g ≡ n * weighted_length c = length_is c n g surface.fatgraph in

@@ -5,6 +5,7 @@ use Rattle.sc_theory.specs.Prices.{Prices, pairs, pair_price, base_price, price}
 use Rattle.sc_chain.specs.Pairs.{row_in, row_price}
 use Rattle.sc_chain.proofs.PairLaws.{pair_price_is}
 
+-- the price of the pair of i's successor and j, read off its row, and the base price of j are the price of the step
 pub step_price_is : (c : Chain) (ps : List (ℕ × ℕ)) (list : Prices) (i j p : ℕ) (x y : ℤ) → ps ≡ pairs c → length list.pair ≡ length (pairs c) → p ≡ succ c i
     → x ≡ row_price list (row_in ps p j) → y ≡ base_price c list j → x +ℤ y ≡ price c list i j
 step_price_is c ps list i j p x y own sizes next pair base =

@@ -24,6 +24,7 @@ not_above : (z : ℤ) (e : Option ℤ) → (IsAbove z e → ⊥) → (b : ℤ) �
 not_above z None h = absurd (h tt)
 not_above z (Some b) h = (b, refl, not_below z b h)
 
+-- tables vouch for a list exactly where they have no flaw
 pub flawless_vouch : (c : Chain) (list : Prices) (tables : Tables) → ((flaw : TableFlaw) → ¬ HasTableFlaw c list tables flaw) → Vouch c list tables
 flawless_vouch c list tables none = record {
   starts = λ s inside.
@@ -76,6 +77,7 @@ one_before (Step s i j) (Step t k l) =
           ]
     ]
 
+-- only one flaw is the first
 pub first_flaw_alone : (c : Chain) (list : Prices) (tables : Tables) (f g : TableFlaw) → IsFirstTableFlaw c list tables f → IsFirstTableFlaw c list tables g → f ≡ g
 first_flaw_alone c list tables f g a b =
     elim (one_before f g) [ inl e ↦ e | inr (inl h) ↦ absurd (b.before f h a.here) | inr (inr h) ↦ absurd (a.before g h b.here) ]
@@ -90,6 +92,7 @@ flaw_inside : (c : Chain) (list : Prices) (tables : Tables) (flaw : TableFlaw) �
 flaw_inside c list tables (Start s) h = h.start
 flaw_inside c list tables (Step s i j) h = h.start
 
+-- with no flaw in any row the tables vouch for the list
 pub all_rows : (c : Chain) (list : Prices) (tables : Tables) (s : ℕ) → positions c ≤ s → AreFlawlessBefore c list tables s → Vouch c list tables
 all_rows c list tables s past rows =
     flawless_vouch c list tables (λ flaw h. rows.none flaw (omega (arith, past, flaw_inside c list tables flaw h)) h)
@@ -100,6 +103,7 @@ all_rows c list tables s past rows =
 pub record AreStepsFlawless (c : Chain) (list : Prices) (tables : Tables) (s i : ℕ) : Type 0 where
   pub none : (k l : ℕ) → k < i → ¬ HasStepFlaw c list tables s k l
 
+-- where no step from i has a flaw either, those that begin before i + 1 have none
 pub one_begin_more : (c : Chain) (list : Prices) (tables : Tables) (s i : ℕ) → AreStepsFlawless c list tables s i → ((l : ℕ) → ¬ HasStepFlaw c list tables s i l) → AreStepsFlawless c list tables s (i + 1)
 one_begin_more c list tables s i steps here = record {
   none = λ k l less.

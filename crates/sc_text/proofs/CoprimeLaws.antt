@@ -21,6 +21,7 @@ divides_both a b k h =
     let both = and_parts (eqb (a % k) 0) (eqb (b % k) 0) (not-false _ h) in
     (dvd_of_mod-eq-zero k (eqb-true _ _ both.0), dvd_of_mod-eq-zero k (eqb-true _ _ both.1))
 
+-- numbers without a divisor in common pass the test
 pub coprime_test : (a b : ℕ) → IsGcd a b 1 → are_coprime a b ≡ true
 unfolding are_coprime
 coprime_test a b h =
@@ -32,6 +33,7 @@ coprime_test a b h =
       | inr both ↦ absurd (let two = divides_both a b (2 + i) both in omega (arith, le_of_dvd {m = 2 + i} {n = 1} (omega arith) (h.2 (2 + i) two.0 two.1)))
     ])
 
+-- numbers that pass it have no divisor in common, where the second isn't 0
 pub coprime_from_test : (a b : ℕ) → 1 ≤ b → are_coprime a b ≡ true → IsGcd a b 1
 unfolding are_coprime
 coprime_from_test a b some h =

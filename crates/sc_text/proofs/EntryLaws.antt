@@ -22,6 +22,7 @@ dash_is_no_number : number_of (codes "-") ≡ None
 unfolding number_of spelling natural_spelling
 dash_is_no_number = refl
 
+-- no number is spelled as a dash
 pub no_dash : (z : ℤ) → bytes_eq (spelling z) (codes "-") ≡ false
 no_dash z =
     elim (cases_Bool (bytes_eq (spelling z) (codes "-"))) [
@@ -38,6 +39,7 @@ pub entry_of_field : (e : Entry) → entry_of (entry_field e) ≡ e
 entry_of_field None = refl
 entry_of_field (Some z) = rw (no_dash z, number_of-spelling z) refl
 
+-- the same of the fields of a row
 pub fields_are_entries : (es : List Entry) → list_all is_entry (map entry_field es) ≡ true
 fields_are_entries [] = refl
 fields_are_entries (e ∷ es) = and_from _ _ (is_entry_field e) (fields_are_entries es)
@@ -50,6 +52,7 @@ lacks-entry_field : (e : Entry) → lacks 32 (entry_field e) ≡ true
 lacks-entry_field None = refl
 lacks-entry_field (Some z) = lacks-spelling 32 z (omega arith)
 
+-- no field of an entry has a space
 pub entry_fields_lack : (es : List Entry) → AllLack 32 (map entry_field es)
 entry_fields_lack [] = tt
 entry_fields_lack (e ∷ es) = (lacks-entry_field e, entry_fields_lack es)
@@ -58,6 +61,7 @@ entry_in_range : (e : Entry) → IsEntryInRange e → is_entry_in_range (entry_f
 entry_in_range None h = refl
 entry_in_range (Some z) h = rw (no_dash z, number_of-spelling z) (in_range_test (neg_ℤ MAX_ENTRY) MAX_ENTRY z h.0 h.1)
 
+-- the fields of entries in range pass the test of range
 pub entries_in_range : (es : List Entry) → AllByRecursion IsEntryInRange es → list_all is_entry_in_range (map entry_field es) ≡ true
 entries_in_range [] h = refl
 entries_in_range (e ∷ es) h = and_from _ _ (entry_in_range e h.0) (entries_in_range es h.1)
@@ -68,6 +72,7 @@ pub record IsEntryField (f : Field) : Type 0 where
   pub is : f ≡ entry_field told
   pub in_range : IsEntryInRange told
 
+-- a field that passes both tests is that of an entry in range
 pub entry_from_tests : (f : Field) → is_entry f ≡ true → is_entry_in_range f ≡ true → IsEntryField f
 entry_from_tests f h k =
     elim (cases_Bool (bytes_eq f (codes "-"))) [
@@ -84,6 +89,7 @@ entry_from_tests f h k =
           ] refl
     ]
 
+-- fields are those of entries in range, as they are where each passes both tests
 pub record AreEntryFields (fs : List Field) : Type 0 where
   pub told : List Entry
   pub are : fs ≡ map entry_field told
@@ -118,6 +124,7 @@ pub record HasEntries (all left : List Field) (count : ℕ) (in_range : Bool) (r
 list_all_push : (p : Field → Bool) (fs : List Field) (f : Field) (before at : Bool) → list_all p fs ≡ before → p f ≡ at → list_all p (fs ++ f ∷ []) ≡ (before && at)
 list_all_push p fs f before at h k = list_all-append p fs (f ∷ []) ∙ (λ i. h i && (k i && true)) ∙ ap (λ (b : Bool). before && b) (and-true at)
 
+-- a reader that passes the field of an entry in range has one entry more in its row
 pub one_more : (all left : List Field) (count : ℕ) (in_range : Bool) (row : List Entry) (f : Field) (e : Entry) → HasEntries all (f ∷ left) count in_range row → f ≡ entry_field e → IsEntryInRange e → HasEntries all left (count + 1) in_range (row ++ e ∷ [])
 one_more all left count in_range row f e h is range =
     let form : is_entry f ≡ true = ap is_entry is ∙ is_entry_field e in
@@ -133,10 +140,12 @@ one_more all left count in_range row f e h is range =
       };
     }
 
+-- a field is an entry, but out of range
 pub record IsOutOfRange (f : Field) : Type 0 where
   pub entry : is_entry f ≡ true
   pub outside : is_entry_in_range f ≡ false
 
+-- a field with the fault Range is an entry out of range
 pub out_of_range : (f : Field) → entry_fault f ≡ Some Range → IsOutOfRange f
 out_of_range f h =
     elim (cases_Bool (is_entry f)) [
@@ -148,6 +157,7 @@ out_of_range f h =
       | inr other ↦ absurd (let bad : Some Form ≡ Some Range = rw other at h in cc)
     ]
 
+-- a reader that passes an entry out of range has one field more, and not all in range
 pub one_wide : (all left : List Field) (count : ℕ) (in_range : Bool) (row : List Entry) (f : Field) → HasEntries all (f ∷ left) count in_range row → entry_fault f ≡ Some Range → HasEntries all left (count + 1) false row
 one_wide all left count in_range row f h fault =
     let wide = out_of_range f fault in record {

@@ -12,6 +12,7 @@ use Rattle.sc_text.specs.ValueLines.{Quotient, value_line}
 use Rattle.sc_text.specs.TableLines.{Entry, entry_field, from_line}
 use Rattle.sc_text.proofs.WordLaws.{lacks-spelled}
 
+-- a line of fields that have no line feed has none
 pub lacks-spaced : (f : Field) (fs : List Field) → AllLack 10 (f ∷ fs) → lacks 10 (spaced (f ∷ fs)) ≡ true
 lacks-spaced f [] h = h.0
 lacks-spaced f (g ∷ gs) h = lacks-append 10 f (32 ∷ spaced (g ∷ gs)) h.0 (lacks-spaced g gs h.1)
@@ -23,9 +24,11 @@ numbers_lack : (zs : List ℤ) → AllLack 10 (map spelling zs)
 numbers_lack [] = tt
 numbers_lack (z ∷ zs) = (lacks-number z, numbers_lack zs)
 
+-- a line of numbers has no line feed where its name has none
 pub lacks-numbers_line : (name : List ℕ) (zs : List ℤ) → lacks 10 name ≡ true → lacks 10 (numbers_line name zs) ≡ true
 lacks-numbers_line name zs h = lacks-spaced name (map spelling zs) (h, numbers_lack zs)
 
+-- nor has the line of a word, a side, a value, a row or a pair
 pub lacks-word_line : (w : ℕ × Word) → lacks 10 (word_line w) ≡ true
 lacks-word_line w = lacks-spaced (codes "word") (spelling (pos w.0) ∷ spelled w.1 ∷ []) (refl, (lacks-number (pos w.0), (lacks-spelled 10 w.1 (omega arith), tt)))
 

@@ -31,6 +31,7 @@ use Rattle.sc_text.proofs.EntryLaws.{entry_fields_lack, fields_are_entries, entr
 
 -- ---- words and sides
 
+-- what stands between the spaces of the lines of words and sides
 pub fields-word_line : (w : ℕ × Word) → fields (word_line w) ≡ codes "word" ∷ spelling (pos w.0) ∷ spelled w.1 ∷ []
 fields-word_line w =
     fields-spaced (codes "word") (spelling (pos w.0) ∷ spelled w.1 ∷ []) (refl, (lacks-spelling 32 (pos w.0) (omega arith), (lacks-spelled 32 w.1 (omega arith), tt)))
@@ -40,16 +41,19 @@ fields-side_line s =
     fields-spaced (codes "side") (spelling (pos s.label) ∷ spelling (pos s.mate) ∷ spelling (pos s.next) ∷ [])
     (refl, (lacks-spelling 32 (pos s.label) (omega arith), (lacks-spelling 32 (pos s.mate) (omega arith), (lacks-spelling 32 (pos s.next) (omega arith), tt))))
 
+-- the line of a side in range has no fault
 pub good_side : (s : Side) → IsSideInRange s → numbers_line_fault (codes "side") (between 0 MAX_LABEL ∷ between 0 MAX_SIDE ∷ between 0 MAX_SIDE ∷ []) (side_line s) ≡ None
 good_side s h =
     named_is (codes "side") (numbers_fault (between 0 MAX_LABEL ∷ between 0 MAX_SIDE ∷ between 0 MAX_SIDE ∷ [])) (side_line s) _ (fields-side_line s)
     ∙ rw (number_of-spelling (pos s.label), number_of-spelling (pos s.mate), number_of-spelling (pos s.next), between-natural 0 MAX_LABEL s.label (omega arith) h.label, between-natural 0 MAX_SIDE s.mate (omega arith) h.mate, between-natural 0 MAX_SIDE s.next (omega arith) h.next) refl
 
+-- the line of a word in range, of at most as many letters as there is room for, has no fault
 pub good_word : (room : ℕ) (w : ℕ × Word) → IsWordInRange w → length w.1 ≤ room → named_fault (codes "word") (word_fields_fault room) (word_line w) ≡ None
 good_word room w h fits =
     named_is (codes "word") (word_fields_fault room) (word_line w) _ (fields-word_line w)
     ∙ rw (number_of-spelling (pos w.0), word_again w.1 h.letters) (nonempty_word room (pos w.0) w.1 h.some ∙ word_fault_none room w.0 w.1 h.low h.high fits h.reduced)
 
+-- a line is that of a side in range
 pub record IsSideLine (line : Line) : Type 0 where
   pub side : Side
   pub is : line ≡ side_line side
@@ -70,6 +74,7 @@ side_from line (a ∷ b ∷ c ∷ []) e h =
     }
 side_from line (a ∷ b ∷ c ∷ d ∷ zs) e h = absurd h.1.1.1
 
+-- a line of a side without a fault is that of a side in range
 pub side_inverse : (line : Line) → side_row line ≡ None → IsSideLine line
 side_inverse line h =
     let rs : List NumberRange = between 0 MAX_LABEL ∷ between 0 MAX_SIDE ∷ between 0 MAX_SIDE ∷ [] in
@@ -77,6 +82,7 @@ side_inverse line h =
     let numbers = numbers_inverse rs named.rest named.good in
     side_from line numbers.numbers (named.fields ∙ ap (λ (fs : List Field). codes "side" ∷ fs) numbers.fields) numbers.in_range
 
+-- a line is that of a word in range, of at most as many letters as there is room for
 pub record IsWordLine (room : ℕ) (line : Line) : Type 0 where
   pub word : ℕ × Word
   pub is : line ≡ word_line word
@@ -115,6 +121,7 @@ word_of_fields room line (f ∷ []) e h = absurd (none-some Form (sym h))
 word_of_fields room line (f ∷ letters ∷ []) e h = word_from room (number_of f) (word_of letters) line f letters e refl refl h
 word_of_fields room line (f ∷ letters ∷ g ∷ fs) e h = absurd (none-some Form (sym h))
 
+-- a line of a word without a fault is that of such a word
 pub word_inverse : (room : ℕ) (line : Line) → word_row room line ≡ None → IsWordLine room line
 word_inverse room line h =
     let named = named_inverse (codes "word") (word_fields_fault room) line h in
@@ -123,6 +130,7 @@ word_inverse room line h =
 word_in-word_line : (w : ℕ × Word) → IsWordInRange w → word_in (word_line w) ≡ w
 word_in-word_line w h = rw (fields-word_line w, number_of-spelling (pos w.0), word_again w.1 h.letters) refl
 
+-- the lines of words without a fault are exactly those of the words that may come, and tell them
 pub word_kind : (room : ℕ) → IsLineKind (word_row room) word_in word_line (FitsIn room)
 word_kind room =
     kind_from (word_row room) word_in word_line (FitsIn room)
@@ -137,6 +145,7 @@ word_kind room =
 side_in-side_line : (s : Side) → side_in (side_line s) ≡ s
 side_in-side_line s = rw (fields-side_line s, number_of-spelling (pos s.label), number_of-spelling (pos s.mate), number_of-spelling (pos s.next)) refl
 
+-- the same of sides in range
 pub side_kind : IsLineKind side_row side_in side_line IsSideInRange
 side_kind =
     kind_from side_row side_in side_line IsSideInRange good_side (λ s in_range. side_in-side_line s)
@@ -167,6 +176,7 @@ number_inverse name low high line h =
     let numbers = numbers_inverse (from_to low high ∷ []) named.rest named.good in
     number_from name low high line numbers.numbers (named.fields ∙ ap (λ (fs : List Field). name ∷ fs) numbers.fields) numbers.in_range
 
+-- the lines of scales without a fault are exactly those of the scales in range, and tell them
 pub scale_kind : IsLineKind scale_row scale_in scale_line IsScaleInRange
 scale_kind =
     kind_from scale_row scale_in scale_line IsScaleInRange
@@ -178,6 +188,7 @@ scale_kind =
       in_range = record { low = d.in_range.low_end; high = d.in_range.high_end };
     })
 
+-- the same of the prices of words
 pub base_kind : IsLineKind base_row base_in base_line IsPriceInRange
 base_kind =
     kind_from base_row base_in base_line IsPriceInRange
@@ -191,6 +202,7 @@ base_kind =
 
 -- ---- the price of a pair
 
+-- what stands between the spaces of the line of a pair
 pub fields-pair_line : (p : ℕ × ℕ) (y : ℤ) → fields (pair_line p y) ≡ codes "pair" ∷ spelling (pos p.0) ∷ spelling (pos p.1) ∷ spelling y ∷ []
 fields-pair_line p y =
     fields-spaced (codes "pair") (spelling (pos p.0) ∷ spelling (pos p.1) ∷ spelling y ∷ [])
@@ -222,11 +234,13 @@ pair_inverse p line h =
     (named.fields ∙ ap (λ (fs : List Field). codes "pair" ∷ fs) (first.fields ∙ ap (λ (fs : List Field). spelling (pos p.0) ∷ fs) (second.fields ∙ ap (λ (fs : List Field). spelling (pos p.1) ∷ fs) numbers.fields)))
     numbers.in_range
 
+-- the lines of a pair without a fault are exactly those of the prices in range, and tell them
 pub pair_kind : (p : ℕ × ℕ) → IsLineKind (pair_row p) pair_price_in (pair_line p) IsPriceInRange
 pair_kind p = kind_from (pair_row p) pair_price_in (pair_line p) IsPriceInRange (good_pair p) (λ y in_range. pair_price_in-pair_line p y) (pair_inverse p)
 
 -- ---- the row of a table
 
+-- what stands between the spaces of the line of a row
 pub fields-from_line : (s : ℕ) (es : List Entry) → fields (from_line s es) ≡ codes "from" ∷ spelling (pos s) ∷ map entry_field es
 fields-from_line s es = fields-spaced (codes "from") (spelling (pos s) ∷ map entry_field es) (refl, (lacks-spelling 32 (pos s) (omega arith), entry_fields_lack es))
 
@@ -245,6 +259,7 @@ pub record AreRow (count : ℕ) (fs : List Field) : Type 0 where
   pub are : fs ≡ map entry_field entries
   pub in_range : IsRowInRange count entries
 
+-- so many fields without a fault are the entries of a row in range
 pub row_from : (count : ℕ) (fs : List Field) → entries_fault count fs ≡ None → AreRow count fs
 row_from count fs h =
     elim (cases_Bool (eqb (length fs) count && list_all is_entry fs)) [
@@ -272,16 +287,19 @@ row_inverse count s line h =
       in_range = row.in_range;
     }
 
+-- the lines of the row of a start without a fault are exactly those of the rows in range, and tell them
 pub from_kind : (count s : ℕ) → IsLineKind (from_row count s) entries_in (from_line s) (IsRowInRange count)
 from_kind count s = kind_from (from_row count s) entries_in (from_line s) (IsRowInRange count) (good_row count s) (λ es in_range. entries_in-from_line s es) (row_inverse count s)
 
 -- ---- a value
 
+-- what stands round the slash of a quotient are the spellings of its two numbers
 pub halves-quotient_text : (a b : ℤ) → halves (quotient_text a b) ≡ spelling a ∷ spelling b ∷ []
 halves-quotient_text a b =
     slice_split_at (λ x. eqb x 47) (spelling a) 47 (spelling b) (lacking 47 (spelling a) (lacks-spelling_but 47 a (omega arith) (λ e. omega arith))) refl
     ∙ ap (λ (rest : List Field). spelling a ∷ rest) (slice_split_none (λ x. eqb x 47) (spelling b) (lacking 47 (spelling b) (lacks-spelling_but 47 b (omega arith) (λ e. omega arith))))
 
+-- what stands between the spaces of the line of a value
 pub fields-value_line : (v : Quotient) → fields (value_line v) ≡ codes "value" ∷ quotient_text v.0 v.1 ∷ []
 fields-value_line v =
     fields-spaced (codes "value") (quotient_text v.0 v.1 ∷ [])
@@ -347,5 +365,6 @@ value_inverse line h =
     let named = named_inverse (codes "value") value_fields_fault line h in
     value_from line named.rest named.fields named.good
 
+-- the lines of values without a fault are exactly those of the values in range, and tell them
 pub value_kind : IsLineKind value_row value_in value_line IsValueInRange
 value_kind = kind_from value_row value_in value_line IsValueInRange good_value (λ v in_range. value_in-value_line v) value_inverse

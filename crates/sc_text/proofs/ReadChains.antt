@@ -24,6 +24,7 @@ light (v ∷ c) all =
     let others : weighted_length c ≤ 1000 * positions c = light c all.1 in
     omega (arith, sum_by-cons (λ (u : ℕ × Word). u.0 * length u.1) v c, sum_by-cons (λ (u : ℕ × Word). length u.1) v c)
 
+-- a chain in range is one that is accepted: its words are nonempty and reduced, and it is within the limits
 pub accepted : (c : Chain) → IsChainInRange c → IsAccepted c
 accepted c r = record {
   good = λ w inside. let known = each_word c r.words w inside in record { nonempty = known.some; reduced = known.reduced };

@@ -33,11 +33,13 @@ use Rattle.sc_line.specs.declared.fault.TextFault.{TextFault}
 use Rattle.sc_text.proofs.KindLaws.{word_kind, side_kind}
 use Rattle.sc_text.proofs.FeedLaws.{lacks-numbers_line, lacks-word_line, lacks-side_line}
 
+-- one word more at the end adds as many positions as it has letters
 pub positions-push : (c : Chain) (w : ℕ × Word) → positions (c ++ w ∷ []) ≡ positions c + length w.1
 positions-push c w = omega (arith, sum_by-append (λ (v : ℕ × Word). length v.1) c (w ∷ []), positions-cons w [])
 
 -- ---- words
 
+-- the lines of the word that is due behind those of a chain, which has the room that they leave
 abbrev pub word_kinds : ℕ → Chain → LineKind (ℕ × Word)
 word_kinds most c = a_word (most - positions c)
 
@@ -68,6 +70,7 @@ words_of most before (w ∷ c) h few =
     let below = rest.few in
     record { words = (h.0.in_range, rest.words); few = omega arith }
 
+-- the form of the words is lawful: what is read are the lines of the chains within the limits
 pub lawful_words : (m : Limits) → IsLawful (words_form m).lines ((words_form m).due uncounted) (IsChainFor m.words m.positions) (suc m.words)
 lawful_words m =
     lawful_where (words_form m).lines ((words_form m).due uncounted) (AreCounted (word_kinds m.positions) (λ b. FitsIn (m.positions - positions b)) (λ b. word_kind (m.positions - positions b)) (λ b. lacks-word_line) m.words) (IsChainFor m.words m.positions) (suc m.words)
@@ -77,6 +80,7 @@ lawful_words m =
 
 -- ---- copies and sides
 
+-- so is the form of the copies, for counts from 1 to the limit
 pub lawful_copies : (m : Limits) → IsLawful (copies_form m).lines ((copies_form m).due None) (IsCountInRange 1 m.copies) 1
 lawful_copies m =
     lawful_one (count_kind (codes "copies") 1 m.copies) (IsCountInRange 1 m.copies) (count_is_kind (codes "copies") 1 m.copies refl) (λ n. lacks-numbers_line (codes "copies") (pos n ∷ []) refl)
@@ -86,6 +90,7 @@ pub record AreSidesFor (most : ℕ) (g : Sides) : Type 0 where
   pub count : length g ≤ most
   pub sides : AllByRecursion IsSideInRange g
 
+-- so is the form of the sides, for as many as the limit allows, each in range
 pub lawful_sides : (m : Limits) → IsLawful (sides_form m).lines ((sides_form m).due uncounted) (AreSidesFor m.sides) (suc m.sides)
 lawful_sides m =
     lawful_where (sides_form m).lines ((sides_form m).due uncounted) (AreCounted (λ (g : Sides). a_side) (λ b. IsSideInRange) (λ b. side_kind) (λ b. lacks-side_line) m.sides) (AreSidesFor m.sides) (suc m.sides)
@@ -100,6 +105,7 @@ abbrev pub IsSaidFor : Limits → Said → Type 0
 IsSaidFor m v =
     Unit {0} × (IsChainFor m.words m.positions v.second.first × (IsCountInRange 1 m.copies v.second.second.first × (AreSidesFor m.sides v.second.second.second.first × Unit {0})))
 
+-- the form of surface texts is lawful at any limits
 pub lawful_surface : (m : Limits) → IsLawful (surface_form m).lines (surface_due m) (IsSaidFor m) (1 + (suc m.words + (1 + (suc m.sides + 1))))
 lawful_surface m =
     lawful_both _ _ _ _ (λ u. (from_words m).lines) _ _ _ (lawful_literal heading refl) (λ u h.
@@ -124,27 +130,33 @@ in_range_said v h = (
   (record { count = h.chain.count; words_in = h.chain.words; letters = h.chain.letters }, (record { low_end = h.low; high_end = h.high }, (record { count = h.count; sides = h.sides }, tt))),
 )
 
+-- the most lines that a surface text of version 1 has
 abbrev pub all_lines : ℕ
 all_lines = 1 + (suc MAX_WORDS + (1 + (suc MAX_SIDES + 1)))
 
+-- at the limits of version 1 what is read are the surfaces in range
 pub lawful_version_1 : IsLawful (surface_form VERSION_1).lines (surface_due VERSION_1) IsSaid all_lines
 lawful_version_1 = lawful_where (surface_form VERSION_1).lines (surface_due VERSION_1) (IsSaidFor VERSION_1) IsSaid all_lines (lawful_surface VERSION_1) said_in_range in_range_said
 
+-- at most 4000000000 lines of a surface text are read, which its reader can count
 pub short_surface : IsShort 4000000000 (surface_due VERSION_1)
 short_surface = short_more all_lines 4000000000 (surface_due VERSION_1) (omega arith) lawful_version_1.short
 
 -- ---- the laws
 
+-- the text of a surface in range has no fault
 pub faultless_text : (c : Chain) (n : ℕ) (g : Sides) → IsSurfaceInRange c n g → IsFaultless surface_table (surface_text c n g)
 unfolding surface_table
 faultless_text c n g h = texts.text_is_faultless (surface_form VERSION_1).lines (surface_due VERSION_1) IsSaid all_lines lawful_version_1 (said c n g) h
 
+-- a text without a fault is that of a surface in range
 pub faultless_is_text : (text : List ℕ) → IsFaultless surface_table text → (c : Chain) × (n : ℕ) × (g : Sides) × IsSurfaceInRange c n g × (text ≡ surface_text c n g)
 unfolding surface_table
 faultless_is_text text good =
     let told = texts.faultless_is_text (surface_form VERSION_1).lines (surface_due VERSION_1) IsSaid all_lines lawful_version_1 text good in
     (told.0.second.first, told.0.second.second.first, told.0.second.second.second.first, told.1, told.2)
 
+-- a surface in range of which this is the text
 pub record IsTextOfSurface (text : List ℕ) : Type 0 where
   pub words : Chain
   pub copies : ℕ
@@ -152,11 +164,13 @@ pub record IsTextOfSurface (text : List ℕ) : Type 0 where
   pub in_range : IsSurfaceInRange words copies sides
   pub is : text ≡ surface_text words copies sides
 
+-- there is one for a text without a fault
 pub readable_text : (text : List ℕ) → IsFaultless surface_table text → IsTextOfSurface text
 readable_text text good =
     let told = faultless_is_text text good in
     record { words = told.0; copies = told.1; sides = told.2; in_range = told.3; is = told.4 }
 
+-- two surfaces have the same chain, copies and sides
 pub record SameSurface (c : Chain) (n : ℕ) (g : Sides) (d : Chain) (m : ℕ) (h : Sides) : Type 0 where
   pub words : c ≡ d
   pub copies : n ≡ m
@@ -169,6 +183,7 @@ same_said v w e = record {
   sides = ap (λ (x : Said). x.second.second.second.first) e;
 }
 
+-- surfaces in range that have the same text are the same
 pub one_text : (c : Chain) (n : ℕ) (g : Sides) (d : Chain) (m : ℕ) (h : Sides) → IsSurfaceInRange c n g → IsSurfaceInRange d m h → surface_text c n g ≡ surface_text d m h → SameSurface c n g d m h
 one_text c n g d m h p q e = same_said (said c n g) (said d m h) (texts.text_is_of_one (surface_form VERSION_1).lines (surface_due VERSION_1) IsSaid all_lines lawful_version_1 (said c n g) (said d m h) p q e)
 
@@ -181,26 +196,32 @@ same_lines c n g =
 
 -- ---- a surface that was read
 
+-- a surface that the lines told, or a fault of the text, is what a reader of surface texts answers
 pub surface_read : (bytes : List ℕ) (r : Result Surface TextFault) → IfOk r (λ s. IsToldBy (surface_due VERSION_1) bytes (said_by s)) → IfErr r (IsFaultOf (plan_of (surface_due VERSION_1)) bytes) → IsSurfaceRead bytes r
 surface_read bytes r = texts.text_of_read (surface_form VERSION_1).lines (surface_due VERSION_1) IsSaid all_lines lawful_version_1 bytes said_by r
 
 module _ (bytes : List ℕ) (r : Result Surface TextFault) (read : IsSurfaceRead bytes r) where
+  -- a text that was read has no fault
   pub is_faultless : OnOk r (IsFaultless surface_table bytes)
   unfolding surface_table
   is_faultless = texts.faultless (surface_form VERSION_1).lines (surface_due VERSION_1) IsSaid all_lines lawful_version_1 bytes said_by r read
 
+  -- a refusal names the first fault of the text, or want of memory
   pub is_malformed : IfErr r (IsFaultOf surface_table bytes)
   unfolding surface_table
   is_malformed = read.malformed
 
+  -- a text with a fault is refused, by its first fault or for want of memory
   pub only_first : (line : ℕ) (kind : Kind) → IsFirstFault surface_table bytes line kind → IsErrAnd r (λ e. (e ≡ text_faults.Malformed line kind) ⊎ (e ≡ text_faults.Memory))
   unfolding surface_table
   only_first line kind first = texts.only (surface_form VERSION_1).lines (surface_due VERSION_1) IsSaid all_lines lawful_version_1 bytes said_by r read line kind first
 
+  -- what is read of the text of a surface in range is that surface
   pub is_same : (c : Chain) (n : ℕ) (g : Sides) → IsSurfaceInRange c n g → bytes ≡ surface_text c n g → IfOk r (λ s. (s.words.items ≡ c) × (s.copies ≡ n) × (s.sides.items ≡ g))
   is_same c n g h e =
       IfOk-weaker r _ _ (λ s same. let is = same_said (said_by s) (said c n g) same in (is.words, is.copies, is.sides))
       (texts.reads_again (surface_form VERSION_1).lines (surface_due VERSION_1) IsSaid all_lines lawful_version_1 bytes said_by r read (said c n g) h e)
 
+  -- the text of a surface in range is refused for want of memory alone
   pub is_memory : (c : Chain) (n : ℕ) (g : Sides) → IsSurfaceInRange c n g → bytes ≡ surface_text c n g → IfErr r (λ e. e ≡ text_faults.Memory)
   is_memory c n g h e = texts.memory (surface_form VERSION_1).lines (surface_due VERSION_1) IsSaid all_lines lawful_version_1 bytes said_by r read (said c n g) h e

@@ -36,11 +36,13 @@ never_wide n d w h =
     let first = h g.0 g.1 in
     let none : ⊥ = rw above at first in none
 
+-- a fraction that is n/d and has the denominator d has the numerator n
 pub same_numerator : (n d : ℕ) (v : Frac) → 1 ≤ d → IsQuotient (pos n) (pos d) v → denominator v ≡ pos d → numerator v ≡ pos n
 same_numerator n d v some same den =
     mul_cancel_z (pos d) (numerator v) (pos n) (omega (arith, ints))
     (*ℤ_comm (pos d) (numerator v) ∙ same ∙ ap (λ (t : ℤ). pos n *ℤ t) den ∙ *ℤ_comm (pos n) (pos d))
 
+-- where the fraction that is n/d has another denominator, n and d have a divisor in common
 pub not_lowest : (n d : ℕ) (v : Frac) → 1 ≤ d → IsQuotient (pos n) (pos d) v → (denominator v ≡ pos d → ⊥) → are_coprime n d ≡ false
 not_lowest n d v some same other =
     elim (cases_Bool (are_coprime n d)) [
@@ -64,6 +66,7 @@ fault_without_den nums dens num den (a ∷ []) e h =
     no_quotient (Some z) = refl
 fault_without_den nums dens num den (a ∷ b ∷ more) e h = refl
 
+-- a field with no number behind its first slash has the fault Form
 pub no_denominator : (nums dens : ℤ → Bool) (field num den : Field) → halves field ≡ num ∷ halves den → number_of den ≡ None → fraction_fault nums dens (halves field) ≡ Some Form
 no_denominator nums dens field num den e h = rw e (fault_without_den nums dens num den (halves den) refl h)
 
@@ -98,6 +101,7 @@ pub no_fault : (n d : ℕ) (fault : FracFault) → (fault ≡ Zero → ⊥) → 
 no_fault n d Zero other h = other refl
 no_fault n d (Wide w) other h = never_wide n d w h
 
+-- a fraction with a numerator and a denominator within the limits is a value in range
 pub value_in_range : (v : Frac) (n d : ℕ) → numerator v ≡ pos n → denominator v ≡ pos d → n ≤ MAX_VALUE → 1 ≤ d → d ≤ MAX_VALUE → IsValueInRange (quotient_of v)
 value_in_range v n d num den n_high d_low d_high = record {
   num_low = subst (λ (t : ℤ). pos 0 ≤ℤ t) (sym num) (omega (arith, ints));
@@ -107,6 +111,7 @@ value_in_range v n d num den n_high d_low d_high = record {
   lowest = v.reduced;
 }
 
+-- a field with numbers before and behind its first slash is the text of their quotient
 pub field_is : (field num den : Field) (a b : ℤ) → halves field ≡ num ∷ halves den → number_of num ≡ Some a → number_of den ≡ Some b → field ≡ quotient_text a b
 field_is field num den a b e m n =
     let alone = halves_of_number den b n in

@@ -26,6 +26,7 @@ HasGenerator x = x.number < GENERATORS
 abbrev IsByteOf : ℕ → Letter → Type 0
 IsByteOf b x = (letter_byte x ≡ b) × HasGenerator x
 
+-- the letter that a byte spells has this byte, and its generator is in range
 pub letter_back : (b : ℕ) (x : Letter) → letter_of b ≡ Some x → IsByteOf b x
 letter_back b x e =
     elim (cases_Bool (leb 97 b && leb b 122)) [
@@ -59,6 +60,7 @@ letter_from n false h =
     let same : 97 + n - 97 ≡ n = omega arith in
     rw small (ap (λ (k : ℕ). Some (letter k false)) same)
 
+-- a letter in range is told by its byte
 pub letter_again : (x : Letter) → HasGenerator x → letter_of (letter_byte x) ≡ Some x
 letter_again x h = letter_from x.number x.inverse h
 
@@ -67,6 +69,7 @@ letter_again x h = letter_from x.number x.inverse h
 abbrev are_letters : List ℕ → Bool
 are_letters bs = list_all (λ b. is_some (letter_of b)) bs
 
+-- bytes of which each spells a letter spell the word of these letters
 pub word_from_letters : (bs : List ℕ) → are_letters bs ≡ true → word_of bs ≡ Some (filter_map letter_of bs)
 word_from_letters [] h = refl
 word_from_letters (b ∷ bs) h =
@@ -81,6 +84,7 @@ with_none : (o : Option Letter) → with_first o None ≡ None
 with_none None = refl
 with_none (Some x) = refl
 
+-- bytes of which one spells no letter spell no word
 pub word_from_others : (bs : List ℕ) → are_letters bs ≡ false → word_of bs ≡ None
 word_from_others [] h = absurd (false≢true (sym h))
 word_from_others (b ∷ bs) h =
@@ -89,6 +93,7 @@ word_from_others (b ∷ bs) h =
       | Some x ↦ λ e. let others : are_letters bs ≡ false = rw e at h in rw (word_from_others bs others) (with_none (letter_of b))
     ] refl
 
+-- the bytes are the spelling of the word, and the generators of its letters are in range
 pub record IsSpelling (bs : List ℕ) (w : Word) : Type 0 where
   pub bytes : spelled w ≡ bs
   pub letters : AllByRecursion HasGenerator w
@@ -96,6 +101,7 @@ pub record IsSpelling (bs : List ℕ) (w : Word) : Type 0 where
 IsSpelling-cons : (b : ℕ) (bs : List ℕ) (x : Letter) (w : Word) → IsByteOf b x → IsSpelling bs w → IsSpelling (b ∷ bs) (x ∷ w)
 IsSpelling-cons b bs x w first rest = record { bytes = λ i. first.0 i ∷ rest.bytes i; letters = (first.1, rest.letters) }
 
+-- bytes that spell a word are its spelling
 pub spelled_back : (bs : List ℕ) (w : Word) → word_of bs ≡ Some w → IsSpelling bs w
 spelled_back [] w e = subst (IsSpelling []) (same_Some _ _ e) (record { bytes = refl; letters = tt })
 spelled_back (b ∷ bs) w e =
@@ -108,6 +114,7 @@ spelled_back (b ∷ bs) w e =
           ] refl
     ] refl
 
+-- a word of letters in range is told by its spelling
 pub word_again : (w : Word) → AllByRecursion HasGenerator w → word_of (spelled w) ≡ Some w
 word_again [] h = refl
 word_again (x ∷ w) h = rw (letter_again x h.0, word_again w h.1) refl
@@ -119,6 +126,7 @@ large_byte x = large x.number x.inverse
     large n true = omega arith
     large n false = omega arith
 
+-- no byte below the capital letters stands in the spelling of a word
 pub lacks-spelled : (c : ℕ) (w : Word) → c < 65 → lacks c (spelled w) ≡ true
 lacks-spelled c [] h = refl
 lacks-spelled c (x ∷ w) h =
@@ -130,6 +138,7 @@ length-spelled w = length-map w letter_byte
 
 -- ---- whether a word is reduced
 
+-- the test tells whether a word is reduced, both ways
 pub reduced_from : (w : Word) → is_reduced w ≡ true → IsReduced w
 reduced_from w h =
     elim (delete_cyclically w) as (λ (o : Option Word). delete_cyclically w ≡ o → o ≡ None) [
@@ -149,6 +158,7 @@ unreduced_test w h =
 
 -- ---- the fault of a word with its weight
 
+-- a weight that is a number and a nonempty word have no fault of form, but what `word_fault` finds
 pub nonempty_word : (room : ℕ) (z : ℤ) (w : Word) → w ≢ [] → weighted_word_fault room (Some z) (Some w) ≡ word_fault room z w
 nonempty_word room z [] h = absurd (h refl)
 nonempty_word room z (x ∷ w) h = refl
@@ -157,6 +167,7 @@ nonempty_word room z (x ∷ w) h = refl
 abbrev pub spells_word : Field → Bool
 spells_word bs = not (eqb (length bs) 0) && are_letters bs
 
+-- behind a weight, a field that spells no word has the fault Form
 pub weighted_form : (room : ℕ) (z : ℤ) (bs : Field) → spells_word bs ≡ false → weighted_word_fault room (Some z) (word_of bs) ≡ Some Form
 weighted_form room z bs h =
     elim (and_cases (not (eqb (length bs) 0)) (are_letters bs) h) [
@@ -166,9 +177,11 @@ weighted_form room z bs h =
       | inr others ↦ rw (word_from_others bs others) refl
     ]
 
+-- the letters that bytes of a field spell, the other bytes left out
 abbrev pub letters_of : Field → Word
 letters_of bs = filter_map letter_of bs
 
+-- a field that spells a word spells that of its letters, which isn't empty
 pub word_of_letters : (bs : Field) → spells_word bs ≡ true → word_of bs ≡ Some (letters_of bs)
 word_of_letters bs h = word_from_letters bs (and_parts (not (eqb (length bs) 0)) (are_letters bs) h).1
 
@@ -178,9 +191,11 @@ letters_nonempty bs h none =
     let spells = spelled_back bs (letters_of bs) (word_of_letters bs h) in
     eqb-false _ _ some (ap length (sym spells.bytes ∙ ap spelled none))
 
+-- the fault of a weight and a field that spells a word is that of the weight and the word
 pub weighted_is : (room : ℕ) (z : ℤ) (bs : Field) → spells_word bs ≡ true → weighted_word_fault room (Some z) (word_of bs) ≡ word_fault room z (letters_of bs)
 weighted_is room z bs h = rw (word_of_letters bs h) (nonempty_word room z (letters_of bs) (letters_nonempty bs h))
 
+-- a field that spells a word has a byte for each letter
 pub length-letters_of : (bs : Field) → spells_word bs ≡ true → length (letters_of bs) ≡ length bs
 length-letters_of bs h =
     let spells = spelled_back bs (letters_of bs) (word_of_letters bs h) in
@@ -188,6 +203,7 @@ length-letters_of bs h =
 
 -- ---- the parts of the fault of a word with its weight
 
+-- a weight out of its range has the fault Range, and so has a word of more letters than there is room for
 pub word_fault_weight : (room : ℕ) (z : ℤ) (w : Word) → between 1 MAX_WEIGHT z ≡ false → word_fault room z w ≡ Some Range
 word_fault_weight room z w h = rw h refl
 
@@ -199,6 +215,7 @@ word_fault_room room z w h =
 fitting : (room n : ℕ) (w : Word) → 1 ≤ n → n ≤ MAX_WEIGHT → length w ≤ room → (between 1 MAX_WEIGHT (pos n) && leb (length w) room) ≡ true
 fitting room n w low high h = and_from _ _ (between-natural 1 MAX_WEIGHT n low high) (le-leb (length w) room h)
 
+-- with both in range, a word that isn't reduced has the fault NotReduced, and one that is has none
 pub word_fault_unreduced : (room n : ℕ) (w : Word) → 1 ≤ n → n ≤ MAX_WEIGHT → length w ≤ room → (IsReduced w → ⊥) → word_fault room (pos n) w ≡ Some NotReduced
 word_fault_unreduced room n w low high h unreduced = rw (fitting room n w low high h, unreduced_test w unreduced) refl
 

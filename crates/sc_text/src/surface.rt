@@ -61,7 +61,7 @@ fn surface_lines(alloc: Global, limits: &Limits) -> SurfaceLines
     }
 }
 
-// Reads by the parts.
+// Reads by the parts. A function of its own, as all clauses of `read_surface_text` follow from this one.
 fn read_parts(alloc: Global, bytes: &[u8]) -> Result<Surface, TextFault>
     ensures { IsSurfaceRead bytes.now result }
 {
