@@ -1,12 +1,10 @@
 -- A walk round a vertex that marks each side that it comes through.
-use Rattle.std.proofs.Common.{cond, ◌≡◌, ◌≢◌, ℕ, suc, ◌<◌, Bool, true, false, ◌⊎◌, inl, inr, List, length, get_or, sym, ◌∙◌, ap, refl, arith, not, get_or-set_other, get_or-set_same}
-use Rattle.std.specs.List.{count_by}
+use Rattle.std.proofs.Common.{◌≡◌, ◌≢◌, ℕ, suc, ◌<◌, Bool, true, ◌⊎◌, inl, inr, List, length, sym, ◌∙◌, ap, refl, arith, get_or-set_other, get_or-set_same}
 use Rattle.std.proofs.Math.ListN.{set, length-set}
 use Rattle.std.proofs.lemmas.Bool.{cases_eq}
-use Rattle.std.proofs.lemmas.List.Sums.{sum_by-set}
 use Rattle.sc_algebra.proofs.Cycles.{iterate-last}
 use Rattle.sc_theory.specs.Fatgraphs.{Sides, next, turn}
-use Rattle.sc_fatgraph.specs.Orbits.{IsRibbon, IsInOrbit, IsMarked, IsClosed}
+use Rattle.sc_fatgraph.specs.Orbits.{IsRibbon, IsInOrbit, IsMarked}
 
 pub turn_in_range : (g : Sides) → IsRibbon g → (s : ℕ) → s < length g → turn g s < length g
 turn_in_range g r s h = r.mates (next g s) (r.nexts s h)
@@ -21,17 +19,6 @@ pub record WalksOn (g : Sides) (before : List Bool) (start : ℕ) (marks : List 
   pub begun : IsMarked marks start ⊎ (side ≡ start)
   pub kept : (s : ℕ) → IsMarked before s → IsMarked marks s
   pub in_orbit : (s : ℕ) → IsMarked marks s → IsMarked before s ⊎ IsInOrbit g start s
-
-pub walk_begins : (g : Sides) (marks : List Bool) (start : ℕ) → start < length g → length marks ≡ length g → IsClosed g marks → WalksOn g marks start marks start
-walk_begins g marks start h e c = record {
-  in_range = h;
-  as_many = e;
-  reached = (0, refl);
-  closed = λ s l m. inl (c s l m);
-  begun = inr refl;
-  kept = λ s m. m;
-  in_orbit = λ s m. inl m;
-}
 
 -- a mark is the new one or an old one
 mark_cases : (marks : List Bool) (i s : ℕ) → IsMarked (set marks i true) s → (s ≡ i) ⊎ IsMarked marks s
@@ -76,18 +63,3 @@ walk_goes_on g before start marks side r w =
             | inr old ↦ w.in_orbit s old
           ];
     }
-
--- the walk ends at a side that is marked
-pub walk_ends : (g : Sides) (before : List Bool) (start : ℕ) (marks : List Bool) (side : ℕ) → WalksOn g before start marks side → IsMarked marks side → IsClosed g marks
-walk_ends g before start marks side w m s h n =
-    elim (w.closed s h n) [ inl now ↦ now | inr e ↦ rw e m ]
-
-pub walk_has_start : (g : Sides) (before : List Bool) (start : ℕ) (marks : List Bool) (side : ℕ) → WalksOn g before start marks side → IsMarked marks side → IsMarked marks start
-walk_has_start g before start marks side w m =
-    elim w.begun [ inl now ↦ now | inr e ↦ rw (← e) m ]
-
--- each step leaves one side fewer without a mark
-pub unmarked_falls : (marks : List Bool) (i : ℕ) → i < length marks → get_or marks i false ≡ false → count_by not (set marks i true) < count_by not marks
-unmarked_falls marks i l e =
-    let s = sum_by-set (λ b. cond (not b) 1 0) marks i true false l in
-    omega (arith, rw e at s)

@@ -73,15 +73,6 @@ unmarked_is_least g marks start r b h m =
           absurd (false≢true (sym m ∙ now))
     ]
 
--- no marks, and no sides below 0
-pub marks_begin : (g : Sides) (marks : List Bool) → length marks ≡ length g → ((s : ℕ) → get_or marks s false ≡ false) → MarksBelow g marks 0
-marks_begin g marks e u = record {
-  as_many = e;
-  closed = λ s h m. absurd (false≢true (sym (u s) ∙ m));
-  below = λ s h. absurd (omega (arith, h));
-  in_orbit = λ s m. absurd (false≢true (sym (u s) ∙ m));
-}
-
 -- a side that is marked already adds no mark
 pub marks_stay : (g : Sides) (marks : List Bool) (start : ℕ) → MarksBelow g marks start → IsMarked marks start → MarksBelow g marks (start + 1)
 marks_stay g marks start b m = record {
@@ -112,9 +103,6 @@ pub record CountsBelow (g : Sides) (marks : List Bool) (start found : ℕ) : Typ
 
 count_next : (test : ℕ → Bool) (n : ℕ) (b : Bool) → test n ≡ b → count_below test (n + 1) ≡ count_below test n + cond b 1 0
 count_next test n b e = rw add-one (rw e refl)
-
-pub count_begins : (g : Sides) (marks : List Bool) → length marks ≡ length g → ((s : ℕ) → get_or marks s false ≡ false) → CountsBelow g marks 0 0
-count_begins g marks e u = record { marked = marks_begin g marks e u; count = refl; few = omega arith }
 
 pub count_stays : (g : Sides) (marks : List Bool) (start found : ℕ) → IsRibbon g → start < length g → CountsBelow g marks start found → get_or marks start false ≡ true → CountsBelow g marks (start + 1) found
 count_stays g marks start found r h b m =

@@ -12,18 +12,6 @@ pub record NextsBelow (g : Sides) (marks : List Bool) (s : ℕ) : Type 0 where
   pub marked : (q : ℕ) → q < s → get_or marks (next g q) false ≡ true
   pub made : (t : ℕ) → get_or marks t false ≡ true → (q : ℕ) × (q < s) × (next g q ≡ t)
 
-pub nexts_begin : (g : Sides) (marks : List Bool) → length marks ≡ length g → ((s : ℕ) → get_or marks s false ≡ false) → NextsBelow g marks 0
-nexts_begin g marks e u = record {
-  as_many = e;
-  flawless = λ q h. absurd (omega (arith, h));
-  marked = λ q h. absurd (omega (arith, h));
-  made = λ t m. absurd (false≢true (sym (u t) ∙ m));
-}
-
--- a side whose next has a mark is a flaw
-pub nexts_end : (g : Sides) (marks : List Bool) (s : ℕ) → s < length g → NextsBelow g marks s → get_or marks (next g s) false ≡ true → HasNextFlaw g s
-nexts_end g marks s h b m = (h, b.made (next g s) m)
-
 pub nexts_grow : (g : Sides) (marks : List Bool) (s : ℕ) → next g s < length g → NextsBelow g marks s → get_or marks (next g s) false ≡ false → NextsBelow g (set marks (next g s) true) (s + 1)
 nexts_grow g marks s h b u =
     let l : next g s < length marks = omega (arith, h, b.as_many) in

@@ -4,7 +4,7 @@ use Rattle.std.proofs.Math.ListN.{length-set}
 use Rattle.std.proofs.Math.Seq.{get_or-append_seam}
 use Rattle.std.proofs.lemmas.List.{get_or_append_left}
 use Rattle.std.proofs.lemmas.Bool.{cases_eq, cases_lt, eq-eqb, ne_eqb}
-use Rattle.sc_gluing.specs.Matching.{so_far, ArePartners, AreMatchable, IsNext, AreLinked, IsCursor, ArePaired}
+use Rattle.sc_gluing.specs.Matching.{so_far, AreMatchable, IsNext, AreLinked, IsCursor, ArePaired}
 use Rattle.sc_gluing.proofs.Ranks.{counted, uncounted}
 
 so_far_here : (xs : List ℕ) (k s : ℕ) → get_or xs s 0 ≡ k → so_far xs k (suc s) ≡ suc (so_far xs k s)
@@ -14,18 +14,6 @@ so_far_other : (xs : List ℕ) (k s : ℕ) → get_or xs s 0 ≢ k → so_far xs
 so_far_other xs k s d = uncounted (λ t. eqb (get_or xs t 0) k) s (ne_eqb (get_or xs s 0) k d)
 
 -- ---- links, from the last place down
-pub none_linked : (kinds firsts following : List ℕ) → length following ≡ length kinds → ((k : ℕ) → k < length firsts → get_or firsts k 0 ≡ length kinds) → AreLinked kinds (length kinds) firsts following
-none_linked kinds firsts following len none = record {
-  as_many = len;
-  first = λ k h. record {
-    from = omega (arith, none k h);
-    until = omega (arith, none k h);
-    none_between = ap (so_far kinds k) (none k h);
-    kind = λ below. absurd (omega (arith, none k h));
-  };
-  next = λ t h below. absurd (omega arith);
-}
-
 pub one_linked : (kinds firsts following : List ℕ) (here : ℕ) → AreLinked kinds (suc here) firsts following → here < length kinds → get_or kinds here 0 < length firsts →
     AreLinked kinds here (set firsts (get_or kinds here 0) here) (set following here (get_or firsts (get_or kinds here 0) 0))
 one_linked kinds firsts following here are inside below =
@@ -64,15 +52,6 @@ one_linked kinds firsts following here are inside below =
     }
 
 -- ---- cursors along the links
-pub none_paired : (kinds opposites cursors following : List ℕ) → AreLinked kinds 0 cursors following → ArePaired kinds opposites 0 cursors []
-none_paired kinds opposites cursors following are = record {
-  as_many = refl;
-  cursor = λ k h. record { until = (are.first k h).until; passed = (are.first k h).none_between; kind = (are.first k h).kind };
-  inside = λ t h. absurd (omega arith);
-  opposite = λ t h. absurd (omega arith);
-  in_order = λ t h. absurd (omega arith);
-}
-
 -- the cursor of a kind that is asked for stands at a place
 pub cursor_inside : (kinds opposites cursors partners : List ℕ) (bound s : ℕ) → AreMatchable kinds opposites bound → bound ≡ length cursors → ArePaired kinds opposites s cursors partners → s < length kinds → get_or cursors (get_or opposites s 0) 0 < length kinds
 cursor_inside kinds opposites cursors partners bound s may len are inside =
@@ -134,11 +113,3 @@ one_paired kinds opposites cursors following partners bound s may len are inside
         | inr other ↦ ap (so_far kinds (get_or opposites u 0)) (last u (omega arith)) ∙ are.in_order u (omega arith)
       ];
     }
-
-pub all_paired : (kinds opposites cursors partners : List ℕ) (s : ℕ) → s ≡ length kinds → ArePaired kinds opposites s cursors partners → ArePartners kinds opposites partners
-all_paired kinds opposites cursors partners s e are = record {
-  as_many = are.as_many ∙ e;
-  inside = λ u h. are.inside u (omega arith);
-  opposite = λ u h. are.opposite u (omega arith);
-  in_order = λ u h. are.in_order u (omega arith);
-}

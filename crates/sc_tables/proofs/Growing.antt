@@ -25,9 +25,6 @@ item_cases [] y (suc n) x e = absurd (cc)
 item_cases (z ∷ xs) y zero x e = inl e
 item_cases (z ∷ xs) y (suc n) x e = elim (item_cases xs y n x e) [ inl front ↦ inl front | inr last ↦ inr (ap suc last.0, last.1) ]
 
-pub grows-refl : {W : Type 0} (nodes : List (Node W)) → Grows nodes nodes
-grows-refl nodes = record { len = omega arith; same = λ n x e. e }
-
 pub grows-trans : {W : Type 0} (a b c : List (Node W)) → Grows a b → Grows b c → Grows a c
 grows-trans a b c p q = record { len = omega (arith, p.len, q.len); same = λ n x e. q.same n x (p.same n x e) }
 

@@ -11,9 +11,6 @@ at_most-refl x = grind (arith, ints)
 pub at_most-trans : (x y z : Levels) → IsAtMost x y → IsAtMost y z → IsAtMost x z
 at_most-trans x y z h k = grind (arith, ints)
 
-pub below_at_most : (x y z : Levels) → IsBelow x y → IsAtMost y z → IsBelow x z
-below_at_most x y z h k = grind (arith, ints)
-
 pub at_most_below : (x y z : Levels) → IsAtMost x y → IsBelow y z → IsBelow x z
 at_most_below x y z h k = grind (arith, ints)
 

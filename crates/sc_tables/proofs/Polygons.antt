@@ -17,9 +17,6 @@ use Rattle.sc_tables.proofs.Repeats.{Repeat, simple_or_repeat, all-append, all_f
 abbrev pub Apart : ℕ → List ℕ → Type 0
 Apart x xs = AllByRecursion (λ j. x ≢ j) xs
 
-swap_apart : (x y : ℕ) → x ≢ y → y ≢ x
-swap_apart x y ne e = ne (sym e)
-
 -- x stands apart from xs, and xs has no repeat: x may be put at any place
 pub put_last : (xs : List ℕ) (x : ℕ) → HasNoRepeat xs → Apart x xs → HasNoRepeat (xs ++ x ∷ [])
 put_last [] x simple away = (tt, tt)

@@ -81,9 +81,6 @@ module _ {W : Type 0} (levels : W → Levels) (c : Chain) (t : Square W) (thresh
         ];
       }
 
-pub none_searched : {W : Type 0} (levels : W → Levels) (c : Chain) (price : ℕ → ℕ → Levels) (threshold : Levels) (side : ℕ) → AreSearched {W = W} levels c price threshold side 0 []
-none_searched levels c price threshold side = record { len = omega arith; row = λ r within. absurd (omega arith) }
-
 -- the rows of all starts
 pub all_rows : {W : Type 0} (levels : W → Levels) (c : Chain) (price : ℕ → ℕ → Levels) (threshold : Levels) (side n : ℕ) (cells : List (Option W)) → side ≡ positions c → n ≡ side → AreSearched levels c price threshold side n cells →
     (s : ℕ) → s < positions c → IsSearched c price threshold s (λ j. option_map levels (get_or cells (s * side + j) None))

@@ -1,5 +1,5 @@
 -- A closed walk that is split into polygons.
-use Rattle.std.proofs.Common.{◌≡◌, ◌≢◌, ◌⊎◌, ℕ, zero, suc, ◌+◌, ◌-◌, ◌<◌, ◌≤◌, List, [], ◌∷◌, ◌++◌, length, get_or, take, drop, ℤ, pos, ◌+ℤ◌, arith, length-drop, refl, sym, ap, subst, ◌∙◌, inl, inr}
+use Rattle.std.proofs.Common.{◌≡◌, ◌≢◌, ◌⊎◌, ℕ, zero, suc, ◌+◌, ◌-◌, ◌<◌, ◌≤◌, List, [], ◌∷◌, ◌++◌, length, get_or, take, drop, ℤ, ◌+ℤ◌, arith, length-drop, refl, sym, ap, subst, ◌∙◌, inl, inr}
 use Rattle.std.specs.List.{AllByRecursion}
 use Rattle.std.proofs.Math.Seq.{take-length}
 use Rattle.std.proofs.lemmas.List.{append-nil, append_assoc, take_more}
@@ -153,13 +153,7 @@ module _ (c : Chain) (path : List ℕ) (x k : ℕ) (inside : k < length path) (a
         polygons_are = added;
       }
 
--- ---- the first step, and the last
-nothing_yet : (a : ℤ) → pos 0 +ℤ a ≡ a
-nothing_yet a = omega (arith, ints)
-
-pub split_first : (c : Chain) (walk : List ℕ) → IsClosedWalk c walk → IsSplitSoFar c walk [] walk []
-split_first c walk closed = record { closed = closed; simple = tt; valid = tt; steps = λ f. nothing_yet _ }
-
+-- ---- the last step
 module _ (c : Chain) (walk path rest : List ℕ) (polygons : List (List ℕ)) (so_far : IsSplitSoFar c walk path rest polygons) (none : rest ≡ []) where
   at_end : path ++ rest ≡ path
   at_end = ap (λ (ys : List ℕ). path ++ ys) none ∙ append-nil path
