@@ -14,6 +14,7 @@ use Rattle.sc_gluing.proofs.PartSizes.{copies_more, copies_fit}
 use Rattle.sc_assembly.specs.declared.parts.Part.{Part}
 use Rattle.sc_assembly.specs.Multiples.{counted}
 
+-- with a count for each part: as many parts, and as many copies as the counts come to
 pub length-counted : (parts : List Part) (counts : List ℕ) → length counts ≡ length parts → length (counted parts counts) ≡ length parts
 length-counted [] counts e = refl
 length-counted (p ∷ parts) [] e = absurd (omega arith)
@@ -39,6 +40,7 @@ module _ (parts : List Part) (counts : List ℕ) (i : ℕ) (p : Part) (walk : Li
   part_is : get_or (counted parts counts) i ([], 0) ≡ (walk, get_or counts i 0)
   part_is = counted_at parts counts i p as_many inside ∙ ap (λ (q : Part). (q.polygon, get_or counts i 0)) (sym here) ∙ ap (λ (w : List ℕ). (w, get_or counts i 0)) (sym walk_is)
 
+  -- the copies of one part more have room behind those of the parts before it
   pub room_for_part : (labels : List ℕ) (len : ℕ) → len ≡ length labels → labels ≡ labels_of (copies_of (take i (counted parts counts))) → length (labels_of (copies_of (counted parts counts))) < 2 ^ 32 → len + get_or counts i 0 * length walk < 2 ^ 32
   room_for_part labels len e laid few =
       let fits : length (labels_of (copies_of (take i (counted parts counts)))) + get_or counts i 0 * length walk ≤ length (labels_of (copies_of (counted parts counts))) =
@@ -47,6 +49,7 @@ module _ (parts : List Part) (counts : List ℕ) (i : ℕ) (p : Part) (walk : Li
       let so_far : length labels ≡ length (labels_of (copies_of (take i (counted parts counts)))) = ap (λ (xs : List ℕ). length xs) laid in
       omega arith
 
+  -- behind the copies of the first i parts those of the next one are laid
   pub part_laid : (a b a' b' : List ℕ) → AreLaid (copies_of (take i (counted parts counts))) a b → LaysBehind (get_or counts i 0) walk a b a' b' → AreLaid (copies_of (take (i + 1) (counted parts counts))) a' b'
   part_laid a b a' b' laid behind =
       let more : copies_of (take (i + 1) (counted parts counts)) ≡ copies_of (take i (counted parts counts)) ++ replicate (get_or counts i 0) walk =
@@ -54,6 +57,7 @@ module _ (parts : List Part) (counts : List ℕ) (i : ℕ) (p : Part) (walk : Li
       ∙ ap (λ (q : List ℕ × ℕ). copies_of (take i (counted parts counts)) ++ replicate q.1 q.0) part_is in
       subst (λ (ws : List (List ℕ)). AreLaid ws a' b') (sym more) (behind (copies_of (take i (counted parts counts))) laid)
 
+-- behind the last part all copies are laid
 pub all_laid : (parts : List Part) (counts : List ℕ) (i : ℕ) (a b : List ℕ) → length counts ≡ length parts → length parts ≤ i → AreLaid (copies_of (take i (counted parts counts))) a b → AreLaid (copies_of (counted parts counts)) a b
 all_laid parts counts i a b as_many end laid =
     subst (λ (ps : Parts). AreLaid (copies_of ps) a b) (take_all i (counted parts counts) (omega (arith, length-counted parts counts as_many))) laid

@@ -160,6 +160,7 @@ module _ (m : ℕ) (t : ℕ → ℕ) (permutes : IsPermutation t (suc m)) (alone
         ∙ swapped (f m (t m)) (sum_below (λ s. f s (t s)) m);
   }
 
+-- every permutation has its cycles
 pub cycles : (n : ℕ) (t : ℕ → ℕ) → IsPermutation t n → Cycles t n
 cycles zero t permutes = record { walks = []; round = tt; total = λ f. refl }
 cycles (suc m) t permutes =

@@ -62,6 +62,7 @@ columns_in_proportion c m n k (p ∷ parts) (a ∷ counts) (b ∷ others) are th
     ∙ ap₂ (λ (x y : ℤ). x *ℤ column c p.polygon k +ℤ y) (in_proportion p.value m n (pos a) (pos b) are.0 those.0) (columns_in_proportion c m n k parts counts others are.1 those.1)
     ∙ sym (spread (pos m) (pos b) (column c p.polygon k) (parts_column c (counted parts others) k))
 
+-- where the counts over some number of copies balance, so do the values
 pub values_from_one : (c : Chain) (parts : List Part) (n : ℕ) (counts : List ℕ) → 0 < n → AreCounts n parts counts → AreBalanced c n (counted parts counts) → AreValues c parts
 values_from_one c parts n counts some are balanced = record {
   polygons = all_polygons c n parts counts are balanced.polygons;

@@ -15,6 +15,7 @@ use Rattle.sc_assembly.specs.declared.parts.Part.{Part}
 use Rattle.sc_assembly.specs.Multiples.{IsTimes, IsLeastWhole, AreCounts, IsLeastCommon, HasManySides}
 use Rattle.sc_assembly.proofs.Wholes.{size, next_common, beyond}
 
+-- a part with its count is put behind the others
 pub counts_last : (n : ℕ) (parts : List Part) (counts : List ℕ) (p : Part) (k : ℕ) → AreCounts n parts counts → IsTimes n p.value (pos k) → AreCounts n (parts ++ p ∷ []) (counts ++ k ∷ [])
 counts_last n [] [] p k are is = (is, tt)
 counts_last n [] (j ∷ counts) p k are is = absurd are
@@ -25,10 +26,12 @@ module _ (parts : List Part) (i : ℕ) (p : Part) (inside : i < length parts) (h
   one_more : take (i + 1) parts ≡ take i parts ++ p ∷ []
   one_more = take_more parts i p inside ∙ ap (λ (q : Part). take i parts ++ q ∷ []) (sym here)
 
+  -- the next part has its count
   pub counts_more : (n : ℕ) (counts counts' : List ℕ) (k : ℕ) → AreCounts n (take i parts) counts → IsTimes n p.value (pos k) → counts' ≡ counts ++ k ∷ [] → AreCounts n (take (i + 1) parts) counts'
   counts_more n counts counts' k are is e =
       subst (λ (ps : List Part). AreCounts n ps counts') (sym one_more) (subst (AreCounts n (take i parts ++ p ∷ [])) (sym e) (counts_last n (take i parts) counts p k are is))
 
+  -- the least common multiple up to the next part is that of the one before and of its denominator
   pub common_more : (a m : ℕ) → IsLeastCommon (take i parts) a → IsLcm a (size p.value) m → IsLeastCommon (take (i + 1) parts) m
   common_more a m so_far is = subst (λ (ps : List Part). IsLeastCommon ps m) (sym one_more) (next_common (take i parts) p a m so_far is)
 
@@ -70,6 +73,7 @@ module _ (c : Chain) (parts : List Part) (i a limit : ℕ) (p : Part) (next : �
         let cut = split_at parts i p inside here in
         over n some_length (beyond (take i parts) cut.0 p a limit so_far passed n (subst (λ (ps : List Part). IsLeastWhole ps n) cut.1 is))
 
+    -- the part i leads to too many sides
     pub many_sides : HasManySides c parts i a next
     many_sides = record {
       over = all_over;

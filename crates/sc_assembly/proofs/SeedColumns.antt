@@ -179,6 +179,7 @@ unfolding once
 copies_once [] = refl
 copies_once (w ∷ ws) = ap (λ (vs : List (List ℕ)). w ∷ vs) (copies_once ws)
 
+-- over a balanced chain some polygons with counts balance for one copy
 pub feasible : (c : Chain) → IsChain c → IsBalanced c → (parts : Parts) × AreBalanced c 1 parts
 feasible c chain balanced =
     let all : HasMates c = mates c balanced in

@@ -27,6 +27,7 @@ all_counted c [] counts all = tt
 all_counted c (p ∷ parts) [] all = tt
 all_counted c (p ∷ parts) (k ∷ counts) all = (all.0, all_counted c parts counts all.1)
 
+-- counts that are n times the values balance over n copies
 pub balanced : (c : Chain) (parts : List Part) (n : ℕ) (counts : List ℕ) → AreValues c parts → AreCounts n parts counts → AreBalanced c n (counted parts counts)
 balanced c parts n counts values are = record { polygons = all_counted c parts counts values.polygons; sums = values.sums n counts are }
 
@@ -43,6 +44,7 @@ natural n v (negsuc k) low is = absurd (negative n k (numerator v) (denominator 
     negative n k (negsuc a) den low some e = absurd (omega (arith, ints))
     negative n k (pos a) (negsuc d) low some e = absurd (omega (arith, ints))
 
+-- a number that makes all values whole has counts, where no value is negative
 pub counts_exist : (n : ℕ) (parts : List Part) → AllByRecursion (λ p. pos 0 ≤ℤ numerator p.value) parts → MakesWhole parts n → (counts : List ℕ) × AreCounts n parts counts
 counts_exist n [] low whole = ([], tt)
 counts_exist n (p ∷ parts) low whole =
@@ -84,6 +86,7 @@ module _ (c : Chain) (parts : List Part) (values : AreValues c parts) where
       let sides : size (copies_of (counted parts found.0)) ≡ some.0 * weighted_length c = cycles_size c some.0 (copies_of (counted parts found.0)) (cycles_of_parts c some.0 (counted parts found.0) (balanced c parts some.0 found.0 values found.1)) in
       all_ones c some.0 parts found.0 some.1 values.polygons found.1 (sides ∙ ap (λ (l : ℕ). some.0 * l) none ∙ omega arith)
 
+  -- where n copies have fewer than 2^32 sides, n times each value fits 32 bits
   pub counts_fit : (n : ℕ) → IsLeastCommon parts n → n * weighted_length c < 2 ^ 32 → AllByRecursion (λ p. IsCountable n p.value) parts
   counts_fit n is few =
       let found = counts_exist n parts values.not_negative (whole_from_divide n parts is.multiple) in

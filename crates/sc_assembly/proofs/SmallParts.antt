@@ -26,6 +26,7 @@ polygons_from c (p ∷ parts) e =
     let both = and_parts (is_polygon c p.0) (are_polygons c parts) e in
     ((polygons_are_decided c p.0).0 both.0, polygons_from c parts both.1)
 
+-- parts that pass the test are balanced
 pub balanced_from : (c : Chain) (n : ℕ) (parts : Parts) → are_balanced c n parts ≡ true → AreBalanced c n parts
 balanced_from c n parts e =
     let both = and_parts (are_polygons c parts) (all_below (λ k. int_eq (parts_column c parts k) (pos n *ℤ right_side c k)) (rows c)) e in

@@ -60,6 +60,7 @@ module _ (c : Chain) where
     | inr r ↦ split_repeat walk (λ shorter less. split_below n shorter (omega arith)) closed r
   ]
 
+  -- each closed walk is split into polygons
   pub split : (walk : List ℕ) → IsClosedWalk c walk → Split c walk
   split walk closed = split_below (suc (length walk)) walk (omega arith) closed
 
@@ -69,6 +70,7 @@ module _ (c : Chain) where
     pub valid : AllByRecursion (IsPolygon c) polygons
     pub steps : (f : ℕ → ℕ → ℤ) → walks_total f polygons ≡ walks_total f walks
 
+  -- and so are several at once
   pub split_all : (walks : List (List ℕ)) → AllByRecursion (IsClosedWalk c) walks → SplitAll walks
   split_all [] closed = record { polygons = []; valid = tt; steps = λ f. refl }
   split_all (w ∷ ws) closed =

@@ -21,6 +21,7 @@ size_of : (z : ℤ) → pos 0 <ℤ z → z ≡ pos (unsigned_abs z)
 size_of (pos n) h = refl
 size_of (negsuc n) h = absurd (omega (arith, ints))
 
+-- a denominator is positive, so that it is its size
 pub denominator_is : (v : Frac) → denominator v ≡ pos (size v)
 denominator_is v = size_of v.den v.positive
 
@@ -31,6 +32,7 @@ some_size (negsuc n) h = omega arith
 pub size_positive : (v : Frac) → 0 < size v
 size_positive v = some_size v.den v.positive
 
+-- a number makes a fraction whole exactly where the denominator divides it
 pub divides_from_times : (v : Frac) (n : ℕ) (m : ℤ) → IsTimes n v m → size v ∣ n
 divides_from_times v n m h =
     let sizes : n * unsigned_abs (numerator v) ≡ unsigned_abs m * size v =
@@ -68,6 +70,7 @@ count_is n v m h =
 abbrev pub Divide : List Part → ℕ → Type 0
 Divide parts k = AllByRecursion (λ p. size p.value ∣ k) parts
 
+-- the same for all values of a list
 pub divide_from_whole : (n : ℕ) (parts : List Part) → MakesWhole parts n → Divide parts n
 divide_from_whole n [] whole = tt
 divide_from_whole n (p ∷ parts) whole = (divides_from_times p.value n whole.0.0 whole.0.1, divide_from_whole n parts whole.1)
@@ -76,6 +79,7 @@ pub whole_from_divide : (n : ℕ) (parts : List Part) → Divide parts n → Mak
 whole_from_divide n [] divide = tt
 whole_from_divide n (p ∷ parts) divide = ((pos (n / size p.value) *ℤ numerator p.value, times_from_divides p.value n divide.0), whole_from_divide n parts divide.1)
 
+-- the least common multiple of the denominators is the least number that makes all values whole
 pub least_whole : (parts : List Part) (n : ℕ) → IsLeastCommon parts n → IsLeastWhole parts n
 least_whole parts n is = record {
   positive = is.positive;
@@ -91,6 +95,7 @@ divide_last : (n : ℕ) (parts : List Part) (p : Part) → Divide parts n → si
 divide_last n [] p divide h = (h, tt)
 divide_last n (q ∷ parts) p divide h = (divide.0, divide_last n parts p divide.1 h)
 
+-- what the denominators of two lists divide, those of each of them divide
 pub divide_front : (n : ℕ) (parts rest : List Part) → Divide (parts ++ rest) n → Divide parts n
 divide_front n [] rest divide = tt
 divide_front n (q ∷ parts) rest divide = (divide.0, divide_front n parts rest divide.1)
@@ -114,12 +119,14 @@ common (p ∷ parts) =
 IsLcm-positive : (x y m : ℕ) → 0 < x → 0 < y → IsLcm x y m → 0 < m
 IsLcm-positive x y m h k is = pos_of_dvd_of_pos (is.least (x * y) (dvd-mul_right x y) (dvd-mul_left y x)) (omega (arith, mul-le-mul_right y h))
 
+-- of no denominators the least common multiple is 1
 pub first_common : IsLeastCommon [] 1
 first_common = record { positive = omega arith; multiple = tt; least = λ k divide. dvd-mul_right_one k }
   where
     dvd-mul_right_one : (k : ℕ) → 1 ∣ k
     dvd-mul_right_one k = subst (λ (j : ℕ). 1 ∣ j) (omega arith) (dvd-mul_right 1 k)
 
+-- with one part more the least common multiple is that of the one before and of the part's denominator
 pub next_common : (parts : List Part) (p : Part) (a m : ℕ) → IsLeastCommon parts a → IsLcm a (size p.value) m → IsLeastCommon (parts ++ p ∷ []) m
 next_common parts p a m so_far is = record {
   positive = IsLcm-positive a (size p.value) m so_far.positive (size_positive p.value) is;

@@ -34,9 +34,11 @@ rank_apart k l e = sym (kind_of-rank k) ∙ ap kind_of e ∙ kind_of-rank l
 pub record IsFlawlessBelow (c : Chain) (n : ℕ) (g : Sides) (r : ℕ) : Type 0 where
   pub none : (k : FlawKind) (p : ℕ) → rank k < r → ¬ HasFlaw c n g k p
 
+-- no kind comes before the first
 pub flawless_none : (c : Chain) (n : ℕ) (g : Sides) → IsFlawlessBelow c n g 0
 flawless_none c n g = record { none = λ k p h. absurd (omega (arith, h)) }
 
+-- where there is no flaw of a kind either, there is none below the next rank
 pub flawless_more : (c : Chain) (n : ℕ) (g : Sides) (kind : FlawKind) → IsFlawlessBelow c n g (rank kind) → ((p : ℕ) → ¬ HasFlaw c n g kind p) → IsFlawlessBelow c n g (suc (rank kind))
 flawless_more c n g kind b h = record {
   none = λ k p l f.
@@ -46,6 +48,7 @@ flawless_more c n g kind b h = record {
       ];
 }
 
+-- the least place with a flaw of a kind before which no kind has one is that of the first flaw
 pub first_flaw_is : (c : Chain) (n : ℕ) (g : Sides) (kind : FlawKind) (p : ℕ) → IsFlawlessBelow c n g (rank kind) → IsLeastPlace (HasFlaw c n g kind) (Some p) → IsFirstFlaw c n g kind p
 first_flaw_is c n g kind p b h = record { here = h.0; kinds = b.none; places = h.1 }
 
@@ -67,6 +70,7 @@ cases_letter x y =
       | inr e ↦ inr (λ s. e (ap (λ (z : AnyLetter). z.number) s))
     ]
 
+-- where no side has a flaw of range, labels are positions, and mates and nexts are sides
 pub ranges_hold : (c : Chain) (g : Sides) → ((p : ℕ) → ¬ HasRangeFlaw c g p) → AreInRange c g
 ranges_hold c g h = record {
   labels = λ s l. elim (cases_lt (label g s) (positions c)) [ inl y ↦ y | inr f ↦ absurd (h s (l, inl f)) ];

@@ -6,6 +6,7 @@ use Rattle.sc_algebra.proofs.Cycles.{iterate-last}
 use Rattle.sc_theory.specs.Fatgraphs.{Sides, next, turn}
 use Rattle.sc_fatgraph.specs.Orbits.{IsRibbon, IsInOrbit, IsMarked}
 
+-- the next side round the vertex is a side
 pub turn_in_range : (g : Sides) → IsRibbon g → (s : ℕ) → s < length g → turn g s < length g
 turn_in_range g r s h = r.mates (next g s) (r.nexts s h)
 
@@ -35,6 +36,7 @@ mark_kept marks i s l m =
       | inr n ↦ let ne : s ≢ i = n in rw get_or-set_other m
     ]
 
+-- the walk marks the side where it stands and goes on to the next one round the vertex
 pub walk_goes_on : (g : Sides) (before : List Bool) (start : ℕ) (marks : List Bool) (side : ℕ) → IsRibbon g → WalksOn g before start marks side → WalksOn g before start (set marks side true) (turn g side)
 walk_goes_on g before start marks side r w =
     let l : side < length marks = omega (arith, w.in_range, w.as_many) in

@@ -46,6 +46,7 @@ closed_along : (g : Sides) (marks : List Bool) → IsRibbon g → IsClosed g mar
 closed_along g marks r c zero s h m = m
 closed_along g marks r c (suc k) s h m = closed_along g marks r c k (turn g s) (turn_in_range g r s h) (c s h m)
 
+-- a marked side is in the orbit of a lesser one, so that some turns take it there
 pub marked_is_not_least : (g : Sides) (marks : List Bool) (start : ℕ) → IsRibbon g → MarksBelow g marks start → start < length g → IsMarked marks start → is_least_for (turn g) (length g) start ≡ false
 marked_is_not_least g marks start r b h m =
     let t = turn g in
@@ -59,6 +60,7 @@ marked_is_not_least g marks start r b h m =
       | inr e ↦ e
     ]
 
+-- no turns take a side without a mark to a lesser one
 pub unmarked_is_least : (g : Sides) (marks : List Bool) (start : ℕ) → IsRibbon g → MarksBelow g marks start → start < length g → get_or marks start false ≡ false → is_least_for (turn g) (length g) start ≡ true
 unmarked_is_least g marks start r b h m =
     let t = turn g in
@@ -104,6 +106,7 @@ pub record CountsBelow (g : Sides) (marks : List Bool) (start found : ℕ) : Typ
 count_next : (test : ℕ → Bool) (n : ℕ) (b : Bool) → test n ≡ b → count_below test (n + 1) ≡ count_below test n + cond b 1 0
 count_next test n b e = rw add-one (rw e refl)
 
+-- a marked start counts no vertex
 pub count_stays : (g : Sides) (marks : List Bool) (start found : ℕ) → IsRibbon g → start < length g → CountsBelow g marks start found → get_or marks start false ≡ true → CountsBelow g marks (start + 1) found
 count_stays g marks start found r h b m =
     let least = is_least_for (turn g) (length g) in
@@ -114,6 +117,7 @@ count_stays g marks start found r h b m =
       few = omega (arith, b.few);
     }
 
+-- a start without a mark counts a vertex, and its orbit is marked
 pub count_grows : (g : Sides) (marks more : List Bool) (start found : ℕ) → IsRibbon g → start < length g → CountsBelow g marks start found → get_or marks start false ≡ false → length more ≡ length marks → IsClosed g more → IsMarked more start → ((s : ℕ) → IsMarked marks s → IsMarked more s) → ((s : ℕ) → IsMarked more s → IsMarked marks s ⊎ IsInOrbit g start s) → CountsBelow g more (start + 1) (found + 1)
 count_grows g marks more start found r h b u e c m kept made =
     let least = is_least_for (turn g) (length g) in

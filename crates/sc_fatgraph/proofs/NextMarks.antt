@@ -12,6 +12,7 @@ pub record NextsBelow (g : Sides) (marks : List Bool) (s : ℕ) : Type 0 where
   pub marked : (q : ℕ) → q < s → get_or marks (next g q) false ≡ true
   pub made : (t : ℕ) → get_or marks t false ≡ true → (q : ℕ) × (q < s) × (next g q ≡ t)
 
+-- a side whose next has no mark has no flaw, and its next gets one
 pub nexts_grow : (g : Sides) (marks : List Bool) (s : ℕ) → next g s < length g → NextsBelow g marks s → get_or marks (next g s) false ≡ false → NextsBelow g (set marks (next g s) true) (s + 1)
 nexts_grow g marks s h b u =
     let l : next g s < length marks = omega (arith, h, b.as_many) in

@@ -46,6 +46,7 @@ side_in_range f small h s inside = record {
   next = omega (arith, h.fatgraph.nexts s inside, h.few_sides);
 }
 
+-- over a chain within the limits, with the weights of a text, a fatgraph is one that a text may hold
 pub surface_in_range : (f : Surface) → IsSmallChain f.chain → IsSurface f → HaveWeights f.chain → IsSurfaceInRange f.chain f.copies f.sides
 surface_in_range f small h weights = record {
   chain = record { count = small.few_words; words = by_number IsWordInRange no_word f.chain (word_in_range f.chain small weights); letters = small.few_positions };

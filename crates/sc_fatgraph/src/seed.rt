@@ -24,6 +24,7 @@ pub fn seed_surface(alloc: Global, chain: &Chain) -> Result<Fatgraph, AllocError
     let sides = Sides::from_vec(seed_sides(alloc, chain)?);
     match Fatgraph::check(alloc, chain.copy(alloc)?, 1, sides) {
         Ok(fatgraph) => Ok(fatgraph),
+        // The fault is matched by itself: so it is known that no other one comes here.
         Err(fault) => match fault {
             SurfaceFault::Memory => Err(AllocError),
             _ => unreachable!(),

@@ -57,6 +57,7 @@ pub fn read_surface(alloc: Global, bytes: &[u8]) -> Result<SurfaceText, TextFaul
             n: copies,
             sides: Sides::from_vec(sides),
         }),
+        // The fault is matched by itself: so it is known that no other one comes here.
         Err(fault) => match fault {
             ChainFault::Memory => Err(TextFault::Memory),
             _ => unreachable!(),
@@ -70,6 +71,7 @@ fn entries_of(chain: &Chain) -> &[(u32, Word)]
     ensures small { IsSmallChain chain.now }
 {
     let entries = chain.entries();
+    // `words` is called for its clause that the chain is within the limits, which `entries` doesn't have.
     let count = chain.words();
     prove!(entries.len() == count);
     entries

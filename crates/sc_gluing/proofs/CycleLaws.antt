@@ -20,6 +20,7 @@ pub size-cons : (w : List ℕ) (ws : List (List ℕ)) → size (w ∷ ws) ≡ le
 size-cons w ws = length-append w (labels_of ws)
 
 -- ---- the first cycle and those behind it
+-- the next place of a list, and 0 behind its last place
 pub round_within : (n s : ℕ) → suc s < n → round n s ≡ suc s
 round_within n s h = cond-false (eqb (suc s) n) 0 (suc s) (ne_eqb (suc s) n (λ e. omega arith))
 
@@ -134,12 +135,14 @@ first_total f (i ∷ js) =
     sum-congr _ (λ s. f (get_or (i ∷ js) s 0) (ends i js s)) (suc (length js)) (λ s h. ap (f (get_or (i ∷ js) s 0)) (end_of_step i js s h))
     ∙ total_by_places f i i js
 
+-- the label of the side after a side, in the first cycle and in those behind it
 pub at_after_here : (w : List ℕ) (ws : List (List ℕ)) (s : ℕ) → s < length w → at (w ∷ ws) (after (w ∷ ws) s) ≡ get_or w (round (length w) s) 0
 at_after_here w ws s h = ap (at (w ∷ ws)) (after_here w ws s h) ∙ at_here w ws (round (length w) s) (round_inside (length w) s h)
 
 pub at_after_later : (w : List ℕ) (ws : List (List ℕ)) (r : ℕ) → at (w ∷ ws) (after (w ∷ ws) (length w + r)) ≡ at ws (after ws r)
 at_after_later w ws r = ap (at (w ∷ ws)) (after_later w ws r) ∙ at_later w ws (after ws r)
 
+-- a sum over the sides, of a side's label and that of the one after it, is the total of the cycles
 pub sides_total : (f : ℕ → ℕ → ℤ) (ws : List (List ℕ)) → sum_below (λ s. f (at ws s) (at ws (after ws s))) (size ws) ≡ walks_total f ws
 sides_total f [] = refl
 sides_total f (w ∷ ws) =
@@ -154,6 +157,7 @@ step_here : (c : Chain) (w : List ℕ) (s : ℕ) → IsClosedWalk c w → s < le
 step_here c [] s walk h = absurd walk
 step_here c (i ∷ js) s walk h = subst (IsStep c (get_or (i ∷ js) s 0)) (sym (end_of_step i js s h)) (step_at_place c i i js s walk h)
 
+-- where the cycles are closed walks, a step leads from each side's label to that of the side after it
 pub begins_step : (c : Chain) (ws : List (List ℕ)) (s : ℕ) → AllByRecursion (IsClosedWalk c) ws → s < size ws → IsStep c (at ws s) (at ws (after ws s))
 begins_step c [] s walks h = absurd (omega arith)
 begins_step c (w ∷ ws) s walks h =

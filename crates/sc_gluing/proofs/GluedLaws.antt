@@ -49,6 +49,7 @@ module _ (c : Chain) (n : ℕ) (ws : List (List ℕ)) (is : AreCycles c n ws) wh
       let j : ℕ = at ws (after ws s) in
       subst (λ (x : ℕ). rank ws s < x) (opposite_steps c n ws is i j (step s h)) (rank_below (goes ws i j) (size ws) s h (goes_itself ws s))
 
+  -- the step that begins at a side is matched with one
   pub partner : (s : ℕ) → s < size ws → Partner c ws s
   partner s h =
       let i : ℕ = at ws s in
@@ -176,6 +177,7 @@ module _ (c : Chain) (n : ℕ) (ws : List (List ℕ)) (is : AreCycles c n ws) wh
     labels_inside : (s : ℕ) → s < length g → label g s < positions c
     labels_inside s h = subst (λ (x : ℕ). x < positions c) (sym (label_is s h)) (step s (omega (arith, sides_are))).from
 
+    -- a surface that is glued of cycles is a labelled fatgraph over n copies
     pub cycles_fatgraph : 0 < n → IsFatgraph c n g
     cycles_fatgraph some = record {
       copies = some;
@@ -196,6 +198,7 @@ module _ (c : Chain) (n : ℕ) (ws : List (List ℕ)) (is : AreCycles c n ws) wh
         let k : s < size ws = omega (arith, sides_are) in
         ap (mate g) (glued.nexts s h) ∙ mates_back (after ws s) (omega (arith, sides_are, after_inside ws s k))
 
+    -- the glued surface has as many sides as the cycles have places
     pub sides_along : length g ≡ size ws
     sides_along = sides_are
 
@@ -222,5 +225,6 @@ module _ (c : Chain) (n : ℕ) (ws : List (List ℕ)) (is : AreCycles c n ws) (g
       (same_mates u here)
       (first.nexts u inside ∙ same_mates (after ws u) (after_inside ws u here) ∙ sym (second.nexts u there))
 
+  -- two surfaces that are glued of the same cycles are the same
   pub one_gluing : g ≡ h
   one_gluing = ext_get_or no_side g h (sides_are c n ws is g first ∙ sym (sides_are c n ws is h second)) same_sides_at

@@ -134,6 +134,7 @@ same_iterates : (t : ℕ → ℕ) (ws : List (List ℕ)) → ((s : ℕ) → s < 
 same_iterates t ws same zero s h = refl
 same_iterates t ws same (suc k) s h = ap (iterate t k) (same s h) ∙ same_iterates t ws same k (after ws s) (after_inside ws s h)
 
+-- a glued surface has a vertex for each of its cycles
 pub cycles_vertices : (c : Chain) (n : ℕ) (ws : List (List ℕ)) (g : Sides) → AreCycles c n ws → IsGlued c ws g → vertices g ≡ length ws
 cycles_vertices c n ws g is glued =
     let sides : length g ≡ size ws = sides_along c n ws is g glued in
@@ -143,6 +144,7 @@ cycles_vertices c n ws g is glued =
     (λ s h. least_same (turn g) (after ws) (size ws) s (λ k. same_iterates (turn g) ws turns k s h) ∙ least_is_start ws s h)
     ∙ count_starts c ws is.closed
 
+-- there are as many cycles as the counts of the parts, summed
 pub length-copies_of : (parts : Parts) → length (copies_of parts) ≡ sum_by (λ p. p.1) parts
 length-copies_of [] = refl
 length-copies_of (p ∷ parts) =

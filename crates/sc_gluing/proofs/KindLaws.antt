@@ -59,6 +59,7 @@ module _ (c : Chain) (labels afters : List ℕ) (is : AreGlueable c labels after
   step : (s : ℕ) → s < size ws → IsStep c (at ws s) (at ws (after ws s))
   step s h = begins_step c ws s is.are.closed h
 
+  -- each label is a position, and each side after a side is a side
   pub inside : AreInside (positions c) labels afters
   inside = record {
     as_many = is.laid.as_many;
@@ -66,6 +67,7 @@ module _ (c : Chain) (labels afters : List ℕ) (is : AreGlueable c labels after
     after_inside = λ s h. omega (arith, is.laid.afters_are s h, after_inside ws s (omega (arith, sides_are)), sides_are);
   }
 
+  -- no two sides have the same side after them
   pub afters_apart : (s t : ℕ) → s < length labels → t < length labels → get_or afters s 0 ≡ get_or afters t 0 → s ≡ t
   afters_apart s t h k e =
       after_apart ws s t (omega (arith, sides_are)) (omega (arith, sides_are)) (sym (is.laid.afters_are s h) ∙ e ∙ is.laid.afters_are t k)
@@ -111,6 +113,7 @@ module _ (c : Chain) (labels afters : List ℕ) (is : AreGlueable c labels after
     succ_below : (s : ℕ) → s < size ws → succ c (at ws s) < bound
     succ_below s h = (neighbours c (at ws s) (step s h).from).succ_inside
 
+    -- of each kind there are as many as opposite kinds ask for
     pub kinds_matchable : AreMatchable kinds opposites (bound * bound)
     kinds_matchable = record {
       as_many = other.as_many ∙ sym are.as_many;
@@ -128,6 +131,7 @@ module _ (c : Chain) (labels afters : List ℕ) (is : AreGlueable c labels after
           omega (arith, opposites_so_far s k, all, rank_below_opposite c is.copies ws is.are s k);
     }
 
+    -- the step at a side is matched with the one at its partner
     pub partner_matched : (partners : List ℕ) → ArePartners kinds opposites partners → (s : ℕ) → s < size ws → AreMatched c ws s (get_or partners s 0)
     partner_matched partners paired s h =
         let k : s < length kinds = omega (arith, are.as_many, sides_are) in

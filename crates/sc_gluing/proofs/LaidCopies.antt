@@ -6,6 +6,7 @@ use Rattle.sc_gluing.specs.Cycles.{labels_of, round, after}
 use Rattle.sc_gluing.specs.Laying.{LaysBehind, IsLaidSoFar}
 use Rattle.sc_gluing.proofs.CycleLaws.{size, size-cons, after_here, after_later, here_or_later}
 
+-- the side after a side in the first of two lists of cycles, and in the second one
 pub after-append_left : (vs ws : List (List ℕ)) (s : ℕ) → s < size vs → after (vs ++ ws) s ≡ after vs s
 after-append_left [] ws s h = absurd (omega arith)
 after-append_left (v ∷ vs) ws s h =
@@ -32,6 +33,7 @@ labels_of-last : (vs : List (List ℕ)) (w : List ℕ) → labels_of (vs ++ w �
 labels_of-last vs w = flat_map-append (λ (v : List ℕ). v) vs (w ∷ []) ∙ ap (λ (xs : List ℕ). labels_of vs ++ xs) (append-nil w)
 
 -- ---- one cycle
+-- a cycle all of whose places lie behind the others is laid
 pub whole_laid : (walk labels afters labels' afters' : List ℕ) → IsLaidSoFar walk labels afters (length walk) labels' afters' → LaysBehind 1 walk labels afters labels' afters'
 whole_laid walk labels afters labels' afters' is cycles laid =
     let now : labels' ≡ labels ++ walk = is.labels_are ∙ ap (λ (xs : List ℕ). labels ++ xs) (take_all (length walk) walk (omega arith)) in

@@ -28,6 +28,7 @@ code_parts a b true false e = absurd (omega arith)
 code_parts a b false true e = absurd (omega arith)
 code_parts a b false false e = (omega arith, refl)
 
+-- letters with the same number are the same
 pub letters_from_code : (x y : Letter) → code x ≡ code y → x ≡ y
 letters_from_code x y e = let parts = code_parts x.number y.number x.inverse y.inverse e in same_letters x y parts.0 parts.1
 
@@ -59,6 +60,7 @@ code_below x h = low x.number x.inverse h
     low a false h = omega arith
 
 -- ---- the labels of the sides
+-- the labels of the sides along the words are positions
 pub labels_inside : (c : Chain) (labels : List ℕ) → labels ≡ labels_of (word_cycles c) → (s : ℕ) → s < length labels → get_or labels s 0 < positions c
 labels_inside c labels laid s h =
     subst (λ (xs : List ℕ). get_or xs s 0 < positions c) (sym laid) (word_sides c s (subst (λ (xs : List ℕ). s < length xs) laid h)).inside
@@ -87,6 +89,7 @@ module _ (c : Chain) (labels codes inverses : List ℕ) (laid : labels ≡ label
   generator : IsSmallChain c → (s : ℕ) → s < size (word_cycles c) → (side_letter c s).number < 26
   generator small s h = small.generators (at (word_cycles c) s) (word_sides c s h).inside
 
+  -- in a balanced chain there are as many sides with each letter as ask for it
   pub letters_matchable : IsBalanced c → IsSmallChain c → AreMatchable codes inverses 52
   letters_matchable balanced small = record {
     as_many = other.as_many ∙ sym are.as_many;
@@ -104,6 +107,7 @@ module _ (c : Chain) (labels codes inverses : List ℕ) (laid : labels ≡ label
         omega (arith, inverses_so_far s k, all, as_many_inverse c balanced x, rank_below (λ t. same_letter (side_letter c t) x) (size (word_cycles c)) s k (same_letter_itself x));
   }
 
+  -- partners by the numbers of the letters are the mates of the seed surface
   pub partners_are_mates : (partners : List ℕ) → ArePartners codes inverses partners → AreSeedMates c partners
   partners_are_mates partners paired = record { as_many = paired.as_many ∙ are.as_many ∙ as_many; are = mate_at }
     where
@@ -125,6 +129,7 @@ module _ (c : Chain) (labels codes inverses : List ℕ) (laid : labels ≡ label
           }
 
 -- ---- the surface
+-- the sides with these labels, mates and nexts are the seed surface
 pub listed_seed : (c : Chain) (labels afters mates : List ℕ) (g : Sides) → AreLaid (word_cycles c) labels afters → AreSeedMates c mates → AreListed labels mates afters (length labels) g → IsSeed c g
 listed_seed c labels afters mates g laid mated made = record {
   labels = same_labels ∙ laid.labels_are;

@@ -14,6 +14,7 @@ so_far_other : (xs : List ℕ) (k s : ℕ) → get_or xs s 0 ≢ k → so_far xs
 so_far_other xs k s d = uncounted (λ t. eqb (get_or xs t 0) k) s (ne_eqb (get_or xs s 0) k d)
 
 -- ---- links, from the last place down
+-- the place before the linked ones becomes the first of its kind, and the one that was the first follows it
 pub one_linked : (kinds firsts following : List ℕ) (here : ℕ) → AreLinked kinds (suc here) firsts following → here < length kinds → get_or kinds here 0 < length firsts →
     AreLinked kinds here (set firsts (get_or kinds here 0) here) (set following here (get_or firsts (get_or kinds here 0) 0))
 one_linked kinds firsts following here are inside below =
@@ -64,6 +65,7 @@ cursor_inside kinds opposites cursors partners bound s may len are inside =
           absurd (omega (arith, may.enough s inside, c.passed, ap (so_far kinds o) at))
     ]
 
+-- one place more has a partner, where its opposite kind's cursor stands; the cursor goes to the next of that kind
 pub one_paired : (kinds opposites cursors following partners : List ℕ) (bound s : ℕ) → AreMatchable kinds opposites bound → bound ≡ length cursors → ArePaired kinds opposites s cursors partners → s < length kinds →
     ((t : ℕ) → t < length kinds → IsNext kinds (get_or kinds t 0) (suc t) (get_or following t 0)) →
     ArePaired kinds opposites (s + 1) (set cursors (get_or opposites s 0) (get_or following (get_or cursors (get_or opposites s 0) 0) 0)) (partners ++ get_or cursors (get_or opposites s 0) 0 ∷ [])

@@ -10,12 +10,14 @@ pub record Kth (test : ℕ → Bool) (n k : ℕ) : Type 0 where
   pub passes : test number ≡ true
   pub rank : count_below test number ≡ k
 
+-- a number that passes is counted, and one that doesn't isn't
 pub counted : (test : ℕ → Bool) (n : ℕ) → test n ≡ true → count_below test (suc n) ≡ suc (count_below test n)
 counted test n e = ap (λ (b : Bool). count_below test n + cond b 1 0) e ∙ omega arith
 
 pub uncounted : (test : ℕ → Bool) (n : ℕ) → test n ≡ false → count_below test (suc n) ≡ count_below test n
 uncounted test n e = ap (λ (b : Bool). count_below test n + cond b 1 0) e ∙ omega arith
 
+-- each rank below the count is that of a number
 pub kth : (test : ℕ → Bool) (n k : ℕ) → k < count_below test n → Kth test n k
 kth test zero k h = absurd (omega arith)
 kth test (suc n) k h =
@@ -27,6 +29,7 @@ kth test (suc n) k h =
       ]
     ]
 
+-- the rank of a number is below the count
 pub rank_below : (test : ℕ → Bool) (n s : ℕ) → s < n → test s ≡ true → count_below test s < count_below test n
 rank_below test zero s h e = absurd (omega arith)
 rank_below test (suc n) s h e =
@@ -38,6 +41,7 @@ rank_below test (suc n) s h e =
       ]
     ]
 
+-- no two numbers that pass have the same rank
 pub same_rank : (test : ℕ → Bool) (s t : ℕ) → test s ≡ true → test t ≡ true → count_below test s ≡ count_below test t → s ≡ t
 same_rank test s t e h same =
     elim (cases_order s t) [

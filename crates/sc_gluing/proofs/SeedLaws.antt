@@ -78,6 +78,7 @@ module _ (c : Chain) (chain : IsChain c) (balanced : IsBalanced c) (g : Sides) (
       let a : AreLetterMates c s (all.mate_of s) = all.are s (omega (arith, same_size)) in
       ap (λ (t : ℕ). letter c (label g t)) (mate_is s h) ∙ ap (letter c) (label_is (all.mate_of s)) ∙ a.inverse ∙ ap (λ (i : ℕ). inverse_letter (letter c i)) (sym (label_is s))
 
+  -- the seed surface is a labelled fatgraph over one copy
   pub seed_fatgraph : IsFatgraph c 1 g
   seed_fatgraph = record {
     copies = omega arith;

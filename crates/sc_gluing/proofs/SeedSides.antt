@@ -26,6 +26,7 @@ use Rattle.sc_gluing.proofs.Ranks.{Kth, kth, rank_below, same_rank}
 abbrev pub HasAround : (ℕ → ℕ → Type 0) → List ℕ → Type 0
 HasAround P w = (k : ℕ) → k < length w → P (get_or w k 0) (get_or w (round (length w) k) 0)
 
+-- what holds in each cycle of a place and the next one holds of each side's label and that of the side after it
 pub around : (P : ℕ → ℕ → Type 0) (ws : List (List ℕ)) → AllByRecursion (HasAround P) ws → (s : ℕ) → s < size ws → P (at ws s) (at ws (after ws s))
 around P [] all s h = absurd (omega arith)
 around P (w ∷ ws) all s h =
@@ -42,6 +43,7 @@ replicated : (Q : List ℕ → Type 0) (n : ℕ) (w : List ℕ) (ws : List (List
 replicated Q zero w ws one rest = rest
 replicated Q (suc n) w ws one rest = (one, replicated Q n w ws one rest)
 
+-- what holds of the list of each part holds of all copies
 pub all_copies : (Q : List ℕ → Type 0) (parts : Parts) → AllByRecursion (λ p. Q p.0) parts → AllByRecursion Q (copies_of parts)
 all_copies Q [] all = tt
 all_copies Q (p ∷ parts) all = replicated Q p.1 p.0 (copies_of parts) all.0 (all_copies Q parts all.1)
@@ -55,6 +57,7 @@ pub all_words : (c : Chain) (Q : List ℕ → Type 0) → ((w : ℕ) → w < len
 all_words c Q each = all_copies Q (word_parts c) (all_in_range (λ p. Q p.0) (λ w. (positions_of c w, weight c w)) 0 (length c) (λ w h. each w (omega arith)))
 
 -- ---- the position after a position
+-- i is a position, and j the next one round its word
 pub record IsNext (c : Chain) (i j : ℕ) : Type 0 where
   pub inside : i < positions c
   pub next : j ≡ succ c i
@@ -79,6 +82,7 @@ next_around c w within k h =
       next = turned ∙ next ∙ ap (succ c) (sym here);
     }
 
+-- the label of the side after a side is the next position round the word
 pub word_sides : (c : Chain) (s : ℕ) → s < size (word_cycles c) → IsNext c (at (word_cycles c) s) (at (word_cycles c) (after (word_cycles c) s))
 word_sides c s h = around (IsNext c) (word_cycles c) (all_words c (HasAround (IsNext c)) (next_around c)) s h
 
@@ -91,6 +95,7 @@ list_sum-congr : (f g : List ℕ × ℕ → ℤ) → ((p : List ℕ × ℕ) → 
 list_sum-congr f g same [] = refl
 list_sum-congr f g same (p ∷ ps) = ap₂ (λ (x y : ℤ). x +ℤ y) (same p) (list_sum-congr f g same ps)
 
+-- a sum over the sides is one over the words, each as often as its weight says
 pub sum_of_words : (c : Chain) (g : ℕ → ℤ) → sum_below (λ s. g (at (word_cycles c) s)) (size (word_cycles c)) ≡ sum_below (λ w. pos (weight c w) *ℤ sum_below (λ k. g (first c w + k)) (length (word c w))) (length c)
 sum_of_words c g =
     list_sum_is g (labels_of (word_cycles c)) 0
@@ -225,6 +230,7 @@ module _ (c : Chain) where
     pub mate_of : ℕ → ℕ
     pub are : (s : ℕ) → s < sides → AreLetterMates c s (mate_of s)
 
+  -- in a balanced chain each side has a mate
   pub mates : IsBalanced c → HasMates
   mates balanced = record { mate_of = λ s. (or_none s).0; are = λ s h. (or_none s).1 h }
     where
@@ -234,6 +240,7 @@ module _ (c : Chain) where
         | inr past ↦ (0, λ h. absurd (omega arith))
       ]
 
+  -- the mate of the mate is the side
   pub mates_return : (m : HasMates) (s : ℕ) → s < sides → m.mate_of (m.mate_of s) ≡ s
   mates_return m s h =
       let a = m.are s h in

@@ -17,6 +17,7 @@ entry_more d f xs n x len are e s h =
 length_more : {A : Type 0} (xs : List A) (n : ℕ) (x : A) → length xs ≡ n → length (xs ++ x ∷ []) ≡ n + 1
 length_more xs n x len = omega (arith, length-append xs (x ∷ []))
 
+-- one side more has its opposite kind
 pub opposites_more : (c : Chain) (labels afters : List ℕ) (n : ℕ) (opposites : List ℕ) (x : ℕ) → AreOpposites c labels afters n opposites → x ≡ kind (positions c) (prev c (end_at labels afters n)) (succ c (get_or labels n 0)) →
     AreOpposites c labels afters (n + 1) (opposites ++ x ∷ [])
 opposites_more c labels afters n opposites x are e = record {

@@ -49,6 +49,7 @@ side_product c =
     none_before : (x : ℤ) → pos 0 +ℤ x ≡ x
     none_before x = omega (arith, ints)
 
+-- the cycles have n times the weighted length of places
 pub cycles_size : (c : Chain) (n : ℕ) (ws : List (List ℕ)) → AreCycles c n ws → size ws ≡ n * weighted_length c
 cycles_size c n ws is =
     same-pos (size ws) (n * weighted_length c)

@@ -56,10 +56,12 @@ closed_copies : (c : Chain) (n : ℕ) (w : List ℕ) (ws : List (List ℕ)) → 
 closed_copies c zero w ws h k = k
 closed_copies c (suc n) w ws h k = (h, closed_copies c n w ws h k)
 
+-- copies of polygons are closed walks
 pub copies_closed : (c : Chain) (parts : Parts) → AllByRecursion (λ p. IsPolygon c p.0) parts → AllByRecursion (IsClosedWalk c) (copies_of parts)
 copies_closed c [] all = tt
 copies_closed c (p ∷ parts) all = closed_copies c p.1 p.0 (copies_of parts) all.0.closed (copies_closed c parts all.1)
 
+-- the copies of balanced parts are cycles whose columns come to n times the right side
 pub cycles_of_parts : (c : Chain) (n : ℕ) (parts : Parts) → AreBalanced c n parts → AreCycles c n (copies_of parts)
 cycles_of_parts c n parts is = record {
   closed = copies_closed c parts is.polygons;
@@ -106,6 +108,7 @@ not_itself : (b : Bool) → b ≡ not b → ⊥
 not_itself true e = true≢false e
 not_itself false e = true≢false (sym e)
 
+-- no letter is its own inverse
 pub no_own_inverse : (x : Letter) → x ≡ inverse_letter x → ⊥
 no_own_inverse x e = not_itself x.inverse (ap (λ (y : Letter). y.inverse) e)
 

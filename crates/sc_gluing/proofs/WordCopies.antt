@@ -32,6 +32,7 @@ words_size c =
 abbrev pub no_part : List ℕ × ℕ
 no_part = ([], 0)
 
+-- the part number w has the positions of the word number w, and its weight as the count
 pub part_at : (c : Chain) (w : ℕ) → w < length c → get_or (word_parts c) w no_part ≡ (positions_of c w, weight c w)
 part_at c w h = get_or-map-range_with_len (λ w. (positions_of c w, weight c w)) 0 (length c) w w no_part h (omega arith)
 
@@ -39,6 +40,7 @@ part_at c w h = get_or-map-range_with_len (λ w. (positions_of c w, weight c w))
 parts_many : (c : Chain) → length (word_parts c) ≡ length c
 parts_many c = length-map-range_with_len {X = List ℕ × ℕ} (λ w. (positions_of c w, weight c w)) 0 (length c)
 
+-- the sides of the first w words and of the next one are fewer than 2^32
 pub words_fit : (c : Chain) → IsSmallChain c → (w : ℕ) → w < length c → size (copies_of (take w (word_parts c))) + weight c w * length (positions_of c w) < 2 ^ 32
 words_fit c small w h =
     let inside : w < length (word_parts c) = omega (arith, parts_many c) in
@@ -58,6 +60,7 @@ word_ends c w h = elim (cases_lt 0 (length (word c w))) [
     ends (suc n) e some = omega (arith, place_inside c w n (omega arith))
 
 -- ---- the loop over the words
+-- with the copies of the word number w the words up to it are laid
 pub words_more : (c : Chain) (w : ℕ) (a b a' b' : List ℕ) → w < length c → LaysBehind (weight c w) (positions_of c w) a b a' b' → AreLaid (copies_of (take w (word_parts c))) a b → AreLaid (copies_of (take (w + 1) (word_parts c))) a' b'
 words_more c w a b a' b' h lays laid =
     let so_far : List (List ℕ) = copies_of (take w (word_parts c)) in
@@ -65,6 +68,7 @@ words_more c w a b a' b' h lays laid =
     copies_more (word_parts c) w no_part (omega (arith, parts_many c)) ∙ ap (λ (p : List ℕ × ℕ). so_far ++ replicate p.1 p.0) (part_at c w h) in
     subst (λ (ws : List (List ℕ)). AreLaid ws a' b') (sym whole) (lays so_far laid)
 
+-- behind the last word all are laid
 pub words_all : (c : Chain) (w : ℕ) (a b : List ℕ) → length c ≤ w → AreLaid (copies_of (take w (word_parts c))) a b → AreLaid (word_cycles c) a b
 words_all c w a b h laid = subst (λ (ps : Parts). AreLaid (copies_of ps) a b) (take_all w (word_parts c) (omega (arith, parts_many c))) laid
 

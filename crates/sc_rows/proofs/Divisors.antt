@@ -14,9 +14,11 @@ size_positive : (m : ℤ) → pos 0 <ℤ m → 0 < unsigned_abs m
 size_positive (pos n) h = omega (arith, ints)
 size_positive (negsuc n) h = absurd (omega (arith, ints))
 
+-- a positive number has a positive greatest common divisor with each other one
 pub divisor_of_positive : (m a : ℤ) (g : ℕ) → pos 0 <ℤ m → IsGcd (unsigned_abs m) (unsigned_abs a) g → 0 < g
 divisor_of_positive m a g above h = IsGcd-pos (unsigned_abs m) (unsigned_abs a) g (size_positive m above) h
 
+-- a and m over their greatest common divisor are a ratio in lowest terms
 pub lowest_by_divisor : (m a p q : ℤ) (g : ℕ) → pos 0 <ℤ m → IsGcd (unsigned_abs m) (unsigned_abs a) g → pos g *ℤ q ≡ a → pos g *ℤ p ≡ m → IsLowest m a p q
 lowest_by_divisor m a p q g above h num den =
     let common : IsCommonDivisor 1 (λ k. a) m g =

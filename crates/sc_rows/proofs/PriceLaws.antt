@@ -37,6 +37,7 @@ updated_at r level p new l left c size h =
 over_dot : (r : ℕ) (left : Line) (w : ℕ → ℤ) (c : Column) (z : ℤ) → z ≡ dot r w (entry_of c) → IsReduced r (at left.entries) left.den w z → IsReduced r (at left.entries) left.den w (dot r w (entry_of c))
 over_dot r left w c z e h = subst (λ (t : ℤ). IsReduced r (at left.entries) left.den w t) e h
 
+-- the new prices of a level are those that a pivot makes of the old ones
 pub prices_made : (r : ℕ) (level : Level) (p new : PriceRow) (l : ℕ) (left : Line) (c : Column) (w : ℕ → ℤ) (z : ℤ) → length p.entries.items ≡ r → z ≡ dot r w (entry_of c)
     → IsReduced r (at left.entries) left.den w z → IsNewPrices level p l left c new
     → PricesPivoted r (entries_of p) p.scale (entries_of new) new.scale (gap_at r p level c) w (dot r w (entry_of c))
@@ -44,9 +45,11 @@ prices_made r level p new l left c w z size e reduced h =
     let u = updated_at r level p new l left c size h in
     price_by_rule r (entries_of p) w (at left.entries) (entries_of new) p.scale new.scale left.den (dot r w (entry_of c)) (gap_at r p level c) u.p u.q (over_dot r left w c z e reduced) u.ratio u.reduced
 
+-- the leaving row over its positive product has a positive denominator
 pub left_positive : (r : ℕ) (left : Line) (w : ℕ → ℤ) (c : Column) (z : ℤ) → z ≡ dot r w (entry_of c) → pos 0 <ℤ dot r w (entry_of c) → IsReduced r (at left.entries) left.den w z → pos 0 <ℤ left.den
 left_positive r left w c z e above h = pos_of_mul h.factor left.den h.positive (rw (h.scale, e) above)
 
+-- the new prices have a positive scale
 pub new_scale_positive : (level : Level) (p new : PriceRow) (l : ℕ) (left : Line) (c : Column) → pos 0 <ℤ p.scale → pos 0 <ℤ left.den → IsNewPrices level p l left c new → pos 0 <ℤ new.scale
 new_scale_positive level p new l left c some above h =
     pos_of_mul h.reduced.factor new.scale h.reduced.positive (
@@ -64,6 +67,7 @@ level_wide r level p l left c v z w size e reduced (inr h) =
     }
     )
 
+-- a refusal at the bulk level, or at the fine one, is one of the pivot of the prices
 pub bulk_wide : (r : ℕ) (p : PriceRows) (l : ℕ) (left : Line) (c : Column) (v : ℕ → ℤ) (z : ℤ) (fault : RowFault) → ArePrices r p → z ≡ dot r v (entry_of c)
     → IsReduced r (at left.entries) left.den v z → IsWideBy (IsWideAtLevel Bulk p.bulk l left c) fault → IsWideBy (IsWidePricePivot r p c v l) fault
 bulk_wide r p l left c v z (Wide w) prices e reduced h = inr (inl (level_wide r Bulk p.bulk l left c v z w prices.bulk_size e reduced h))
@@ -75,6 +79,7 @@ fine_wide r p l left c v z (Wide w) prices e reduced h = inr (inr (level_wide r 
 fine_wide r p l left c v z Memory prices e reduced h = tt
 
 -- ---- both levels
+-- the prices that a pivot makes stand for the basis after it
 pub prices_stand_after : (rows : List Line) (p new : PriceRows) (l : ℕ) (basis : Basis) (c : Column) → l < length rows → pos 0 <ℤ dot (length rows) (row_of rows l) (entry_of c)
     → ArePrices (length rows) new
     → PricesPivoted (length rows) (entries_of p.bulk) p.bulk.scale (entries_of new.bulk) new.bulk.scale (gap_at (length rows) p.bulk Bulk c) (row_of rows l) (dot (length rows) (row_of rows l) (entry_of c))
@@ -91,6 +96,7 @@ prices_stand_after rows p new l basis c inside above prices bulk fine h k =
     }
 
 -- ---- the prices of the units
+-- bulk prices -1 and fine prices 0, over 1, stand for the basis of the unit columns
 pub unit_prices_stand : (r : ℕ) (p : PriceRows) → ArePrices r p → ((k : ℕ) → k < r → entries_of p.bulk k ≡ negsuc 0) → p.bulk.scale ≡ pos 1
     → ((k : ℕ) → k < r → entries_of p.fine k ≡ pos 0) → p.fine.scale ≡ pos 1 → PricesStand r (unit_basis r) p
 unit_prices_stand r p prices bulk bulk_one fine fine_one =

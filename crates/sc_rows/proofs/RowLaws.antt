@@ -45,6 +45,7 @@ made rows a l i left new reduced updated size =
       reduced = row_by_rule (length rows) (row_of rows i) (row_of rows l) (at left.entries) (at new.entries) (den_of rows i) new.den left.den (a l) (a i) updated.p updated.q reduced updated.ratio updated.reduced;
     }
 
+-- a refusal in the new row of a row whose product isn't 0 is one of the pivot
 pub moving_wide : (rows : List Line) (a : ℕ → ℤ) (l i : ℕ) (left : Line) (fault : RowFault) → i < length rows → i ≢ l → a i ≢ pos 0
     → IsReduced (length rows) (at left.entries) left.den (row_of rows l) (a l)
     → IsWideBy (IsWideUpdate (Row i l) (length rows) (row_of rows i) (den_of rows i) (at left.entries) left.den (a i)) fault
@@ -68,6 +69,7 @@ pub record ArePutIn (rows new : List Line) (a : ℕ → ℤ) (l : ℕ) : Type 0 
   pub left : IsReduced (length rows) (row_of new l) (den_of new l) (row_of rows l) (a l)
   pub others : (i : ℕ) → i < length rows → i ≢ l → IsRowPivoted rows a l i (get_or new i no_line)
 
+-- the leaving row over its product and the new rows, each in its place
 pub put_together : (rows new : List Line) (fresh : List (Option Line)) (a : ℕ → ℤ) (l : ℕ) (left : Line) → length left.entries ≡ length rows
     → IsReduced (length rows) (at left.entries) left.den (row_of rows l) (a l) → AreFresh rows a l (length rows) fresh
     → length new ≡ length rows → get_or new l no_line ≡ left
@@ -80,12 +82,14 @@ put_together rows new fresh a l left left_size reduced are size here others =
       others = λ i inside apart. subst (λ (line : Line). IsRowPivoted rows a l i line) (sym (others i inside apart)) (are i inside apart);
     }
 
+-- the rows that are put in are those that a pivot makes
 pub rows_pivoted : (rows new : List Line) (a : ℕ → ℤ) (l : ℕ) → ArePutIn rows new a l → RowsPivoted (length rows) (row_of rows) (den_of rows) (row_of new) (den_of new) a l
 rows_pivoted rows new a l h = record { left = h.left; others = λ i inside apart. (h.others i inside apart).reduced }
 
 den_positive : (n : ℕ) (v w : ℕ → ℤ) (d e : ℤ) → pos 0 <ℤ e → IsReduced n v d w e → pos 0 <ℤ d
 den_positive n v w d e above h = pos_of_mul h.factor d h.positive (rw h.scale above)
 
+-- the new rows have no common divisor with their denominators
 pub coprime_again : (rows new : List Line) (a : ℕ → ℤ) (l : ℕ) → ArePutIn rows new a l → (i : ℕ) → i < length rows → IsCoprime (length rows) (row_of new i) (den_of new i)
 coprime_again rows new a l h i below =
     elim (cases_eq i l) [
@@ -93,6 +97,7 @@ coprime_again rows new a l h i below =
       | inr apart ↦ (h.others i below apart).reduced.coprime
     ]
 
+-- the new rows are as long as the old ones, over positive denominators, without a common divisor
 pub are_rows_again : (rows new : List Line) (a : ℕ → ℤ) (l : ℕ) → l < length rows → pos 0 <ℤ a l → AreRows rows → ArePutIn rows new a l → AreRows new
 are_rows_again rows new a l inside above old h =
     record {
@@ -118,9 +123,11 @@ are_rows_again rows new a l inside above old h =
         ]
 
 -- ---- the rows of the units
+-- no list has a common divisor with the denominator 1
 pub over_one : (n : ℕ) (v : ℕ → ℤ) (d : ℤ) → d ≡ pos 1 → IsCoprime n v d
 over_one n v d one = subst (λ (e : ℤ). IsCoprime n v e) (sym one) (λ g of_one of_v. eq-one_of_dvd-one of_one)
 
+-- the rows of the identity have the right lengths and denominators, without a common divisor
 pub are_unit_rows : (r : ℕ) (rows : List Line) → length rows ≡ r → ((i : ℕ) → i < r → IsUnitLine r i (get_or rows i no_line)) → AreRows rows
 are_unit_rows r rows size units =
     record {

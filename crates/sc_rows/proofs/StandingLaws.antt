@@ -25,6 +25,7 @@ unit_gives r i line inside h =
           ∙ sym (ap (λ (d : ℤ). d *ℤ unit i j) h.den ∙ one-mul (unit i j));
     }
 
+-- the rows of the identity stand for the basis of the unit columns
 pub unit_rows_stand : (r : ℕ) (rows : List Line) → length rows ≡ r → ((i : ℕ) → i < r → IsUnitLine r i (get_or rows i no_line)) → RowsStand r (unit_basis r) rows
 unit_rows_stand r rows size units =
     record {
@@ -34,6 +35,7 @@ unit_rows_stand r rows size units =
       coprime = λ i l. over_one r (row_of rows i) (den_of rows i) (units i l).den;
     }
 
+-- the rows that a pivot makes stand for the basis after it
 pub rows_stand_after : (rows new : List Line) (a : ℕ → ℤ) (l : ℕ) (basis : Basis) (c : Column) → l < length rows → pos 0 <ℤ a l → ArePutIn rows new a l
     → RowsStand (length rows) basis rows → ((i : ℕ) → i < length rows → a i ≡ dot (length rows) (row_of rows i) (entry_of c))
     → RowsStand (length rows) (after_pivot basis (l, c)) new
@@ -45,6 +47,7 @@ rows_stand_after rows new a l basis c inside above put old products =
       coprime = coprime_again rows new a l put;
     }
 
+-- rows and prices that stand for a basis are numbers that stand for it
 pub stand_together : (r : ℕ) (basis : Basis) (rows : List Line) (p : PriceRows) → RowsStand r basis rows → PricesStand r basis p → Stands r basis (numbers_of rows p)
 stand_together r basis rows p h k =
     record {

@@ -20,6 +20,7 @@ column_term r v c n sum new h inside is next =
     next ∙ ap₂ (λ (s y : ℤ). s +ℤ v (index_at c n) *ℤ y) (before_entry r v c n sum h inside is) (sym (entry_here r 0 c n h inside))
     ∙ ap (λ (m : ℕ). dot (reached c m) v (entry_of c)) (sym (add-one n))
 
+-- where the term of the column's entry n is too wide, an operation of the product is
 pub column_wide : (r : ℕ) (product : Product) (v : ℕ → ℤ) (c : Column) (n : ℕ) (sum : ℤ) (w : WideAt) → IsAscending r 0 c → n < length c → sum ≡ dot (reached c n) v (entry_of c)
     → IsWideTerm product (index_at c n) sum (v (index_at c n)) (number_at c n) w → IsWideProduct product r v (entry_of c) w
 column_wide r product v c n sum w h inside is wide = (

@@ -17,6 +17,7 @@ use Rattle.sc_rows.specs.declared.update.Update.{Update}
 pub scale_positive : (m a p q d : ℤ) → pos 0 <ℤ m → pos 0 <ℤ d → IsLowest m a p q → pos 0 <ℤ (d *ℤ p)
 scale_positive m a p q d above some ratio = mul_pos d p some (pos_of_mul ratio.factor p ratio.positive (rw ratio.scale above))
 
+-- where an operation at one of the entries is too wide, one of the new list is
 pub among_wide : (u : Update) (n : ℕ) (x : ℕ → ℤ) (d : ℤ) (t : ℕ → ℤ) (m a p q : ℤ) (fault : RowFault) → IsLowest m a p q
     → IsWideBy (IsWideAmong u n x t p q) fault → IsWideBy (IsWideUpdate u n x d t m a) fault
 among_wide u n x d t m a p q (Wide w) ratio h = record { p = p; q = q; ratio = ratio; wide = inl h }

@@ -70,6 +70,7 @@ fn gap_of(level: Level, prices: &PriceRow, column: &[(u32, i128)]) -> Result<i12
         second: 0,
         leaving: None,
     };
+    // Not a tail call: `difference_of` has another clause on errors than this function.
     let gap = difference_of(spot, own_cost(level, prices.scale), price)?;
     Ok(gap)
 }

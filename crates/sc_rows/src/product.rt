@@ -62,6 +62,7 @@ fn with_term(product: Product, index: u32, sum: i128, x: i128, y: i128) -> Resul
         return Ok(sum);
     }
     let term = multiply(product.mul_spot(index), x, y)?;
+    // Not a tail call: `sum_of` has another clause on errors than this function.
     let total = sum_of(product.add_spot(index), sum, term)?;
     Ok(total)
 }

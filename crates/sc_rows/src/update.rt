@@ -120,6 +120,7 @@ fn new_entry(update: Update, index: u32, ratio: Ratio, x: i128, t: i128) -> Resu
 {
     let left = multiply(update.left_spot(index), x, ratio.den)?;
     let right = multiply(update.right_spot(index), ratio.num, t)?;
+    // Not a tail call: `join` has another clause on errors than this function.
     let joined = update.join(index, left, right)?;
     Ok(joined)
 }

@@ -12,6 +12,7 @@ use Rattle.sc_tables.specs.declared.search.Stop.TheVariants.{Wide, Memory}
 use Rattle.sc_tables.specs.Searches.{IsCandidate, HasNoStep, Under, Covers, IsBest, IsStop, Closes, AllReach}
 use Rattle.sc_tables.proofs.Order.{at_most-trans}
 
+-- an option holds one item
 pub same_item : {A : Type 0} (x y : A) (o : Option A) → o ≡ Some x → o ≡ Some y → x ≡ y
 same_item x y o e h = cc
 
@@ -42,6 +43,7 @@ module _ {W : Type 0} (levels : W → Levels) (t : Square W) (nodes : List (Node
       within (Some b) h = (omega (arith, h.0), h.1)
   candidate_next best next r inside old new (inr e) = rw e old
 
+  -- with the walk of the node k too: the lesser of what was found before and of its step to j, if it has one
   pub best_next : (best next r : Option (Candidate W)) → k < end → IsBest levels t nodes fresh k end j best → IfSome next (λ b. (b.node ≡ k) × IsCandidate levels t nodes j b) → IfNone next (HasNoStep t nodes k j) →
       (r ≡ next) ⊎ (r ≡ best) → IfSome next (λ b. Under levels r (levels b.total)) → IfSome best (λ b. Under levels r (levels b.total)) → IsBest levels t nodes fresh (k + 1) end j r
   best_next best next r inside is found none one below_next below_best =
@@ -53,9 +55,11 @@ module _ {W : Type 0} (levels : W → Levels) (t : Square W) (nodes : List (Node
         ];
       }
 
+-- what is at most the totals of some walks is so of those of fewer walks
 pub covers_below : {W : Type 0} (levels : W → Levels) (t : Square W) (nodes : List (Node W)) (fresh k end j : ℕ) (best : Option (Candidate W)) → end ≤ k → Covers levels t nodes fresh k j best → Covers levels t nodes fresh end j best
 covers_below levels t nodes fresh k end j best more covers n x w from below here step = covers n x w from (omega arith) here step
 
+-- a stop at one of the first walks is a stop at one of more walks
 pub stop_within : {W : Type 0} (levels : W → Levels) (t : Square W) (nodes : List (Node W)) (k end j : ℕ) (stop : Stop) → k ≤ end → IsStop levels t nodes k j stop → IsStop levels t nodes end j stop
 stop_within levels t nodes k end j (Wide n to wide) more (at, is) =
     (at, record { node = omega (arith, is.node); here = is.here; here_is = is.here_is; price = is.price; step = is.step; evidence = is.evidence })
@@ -63,6 +67,7 @@ stop_within levels t nodes k end j Memory more is = tt
 
 -- the same of an equal list and an equal candidate
 module _ {W : Type 0} (levels : W → Levels) (t : Square W) (a b : List (Node W)) (fresh end j : ℕ) (x y : Option (Candidate W)) (lists : a ≡ b) (options : x ≡ y) where
+  -- both facts go over to an equal list and an equal option
   pub covers-along : Covers levels t a fresh end j x → Covers levels t b fresh end j y
   covers-along covers = subst (λ (o : Option (Candidate W)). Covers levels t b fresh end j o) options (subst (λ (ns : List (Node W)). Covers levels t ns fresh end j x) lists covers)
 
@@ -72,21 +77,25 @@ module _ {W : Type 0} (levels : W → Levels) (t : Square W) (a b : List (Node W
       (subst (λ (ns : List (Node W)). IfSome x (λ c. (c.node < end) × IsCandidate levels t ns j c)) lists found)
 
 -- ---- back to the start
+-- where an option holds nothing, what is said for that case holds
 pub at_none : {A : Type 0} (o : Option A) (P : Type 0) → false ≡ is_some o → IfNone o P → P
 at_none None P e h = h
 at_none (Some a) P e h = absurd (cc)
 
 module _ {W : Type 0} (levels : W → Levels) (t : Square W) (nodes : List (Node W)) (threshold : Levels) (fresh s : ℕ) where
+  -- a walk with a step back to s whose total is below the threshold
   pub closes_from : (b : Candidate W) → IsCandidate levels t nodes s b → IsBelow (levels b.total) threshold → Closes levels t nodes threshold s b.node
   closes_from b is below =
       record { here = is.here; here_is = is.here_is; price = is.price; step = is.step; below = subst (λ (l : Levels). IsBelow l threshold) is.total below }
 
+  -- where the least total with a step back to s is at least the threshold, so is every one
   pub reach_from : (found : Option (Candidate W)) (b : Candidate W) → found ≡ Some b → Covers levels t nodes fresh (length nodes) s found → IsAtMost threshold (levels b.total) → AllReach levels t nodes threshold fresh s
   reach_from found b e covers high n x w from here step =
       let low : IsAtMost (levels b.total) (levels_sum (levels x.total) (levels w)) =
       subst (λ (o : Option (Candidate W)). Under levels o (levels_sum (levels x.total) (levels w))) e (covers n x w from (slice_get_within nodes n x here) here step) in
       at_most-trans threshold (levels b.total) _ high low
 
+  -- where no walk has a step back to s, none comes back below the threshold
   pub reach_none : (found : Option (Candidate W)) → found ≡ None → Covers levels t nodes fresh (length nodes) s found → AllReach levels t nodes threshold fresh s
   reach_none found e covers n x w from here step =
       absurd (subst (λ (o : Option (Candidate W)). Under levels o (levels_sum (levels x.total) (levels w))) e (covers n x w from (slice_get_within nodes n x here) here step))

@@ -10,15 +10,18 @@ use Rattle.sc_tables.proofs.Order.{at_most-refl, at_most-trans, at_most_from_bel
 use Rattle.sc_tables.proofs.Best.{same_item}
 
 -- ---- items of a list and of one that is longer by an item
+-- an item keeps its number where one more is put behind the list
 pub item_front : {A : Type 0} (xs : List A) (y : A) (n : ℕ) (x : A) → slice_get xs n ≡ Some x → slice_get (xs ++ y ∷ []) n ≡ Some x
 item_front [] y n x e = absurd (cc)
 item_front (z ∷ xs) y zero x e = e
 item_front (z ∷ xs) y (suc n) x e = item_front xs y n x e
 
+-- the item that is put behind a list has the list's length as its number
 pub item_last : {A : Type 0} (xs : List A) (y : A) → slice_get (xs ++ y ∷ []) (length xs) ≡ Some y
 item_last [] y = refl
 item_last (z ∷ xs) y = item_last xs y
 
+-- an item of the longer list is one of the old ones or the new one
 pub item_cases : {A : Type 0} (xs : List A) (y : A) (n : ℕ) (x : A) → slice_get (xs ++ y ∷ []) n ≡ Some x → (slice_get xs n ≡ Some x) ⊎ ((n ≡ length xs) × (y ≡ x))
 item_cases [] y zero x e = inr (refl, same_item y x (Some y) refl e)
 item_cases [] y (suc n) x e = absurd (cc)
@@ -28,22 +31,27 @@ item_cases (z ∷ xs) y (suc n) x e = elim (item_cases xs y n x e) [ inl front �
 pub grows-trans : {W : Type 0} (a b c : List (Node W)) → Grows a b → Grows b c → Grows a c
 grows-trans a b c p q = record { len = omega (arith, p.len, q.len); same = λ n x e. q.same n x (p.same n x e) }
 
+-- a list with one more node behind it has grown
 pub grows_last : {W : Type 0} (nodes : List (Node W)) (y : Node W) → Grows nodes (nodes ++ y ∷ [])
 grows_last nodes y = record { len = omega (arith, length-append nodes (y ∷ [])); same = item_front nodes y }
 
 -- ---- what is said of a list holds of a longer one
+-- an entry names the same walk where the list has grown
 pub end-grows : {W : Type 0} (old new : List (Node W)) (end j : ℕ) (o : Option ℕ) → Grows old new → IsEnd old end j o → IsEnd new end j o
 end-grows old new end j None g is = tt
 end-grows old new end j (Some n) g (x, inside, here, at) = (x, inside, g.same n x here, at)
 
+-- an entry that names one of the first walks names one of more walks
 pub end_within : {W : Type 0} (nodes : List (Node W)) (end more j : ℕ) (o : Option ℕ) → end ≤ more → IsEnd nodes end j o → IsEnd nodes more j o
 end_within nodes end more j None le is = tt
 end_within nodes end more j (Some n) le (x, inside, here, at) = (x, omega arith, here, at)
 
+-- the total of an entry's walk stays where the list has grown
 pub lower-grows : {W : Type 0} (levels : W → Levels) (old new : List (Node W)) (o : Option ℕ) (total : Levels) → Grows old new → Lower levels old o total → Lower levels new o total
 lower-grows levels old new None total g is = is
 lower-grows levels old new (Some n) total g (x, here, low) = (x, g.same n x here, low)
 
+-- an entry whose total is at most x has at most y, where x is at most y
 pub lower-trans : {W : Type 0} (levels : W → Levels) (nodes : List (Node W)) (o : Option ℕ) (x y : Levels) → Lower levels nodes o x → IsAtMost x y → Lower levels nodes o y
 lower-trans levels nodes None x y is le = is
 lower-trans levels nodes (Some n) x y (node, here, low) le = (node, here, at_most-trans (levels node.total) x y low le)
@@ -54,11 +62,13 @@ item_at [] n inside = absurd (omega arith)
 item_at (y ∷ xs) zero inside = (y, refl)
 item_at (y ∷ xs) (suc n) inside = item_at xs n (omega arith)
 
+-- a node whose number is below the old length was in the old list
 pub item_before : {W : Type 0} (old new : List (Node W)) (n : ℕ) (x : Node W) → Grows old new → n < length old → slice_get new n ≡ Some x → slice_get old n ≡ Some x
 item_before old new n x g inside here =
     let (y, e) = item_at old n inside in
     e ∙ ap Some (same_item y x (slice_get new n) (g.same n y e) here)
 
+-- what is said of an entry after a round stays where the list has grown
 pub next-grows : {W : Type 0} (levels : W → Levels) (t : Square W) (old new : List (Node W)) (fresh end s j : ℕ) (before o : Option ℕ) → end ≤ length old → ((n : ℕ) → before ≡ Some n → n < end) → Grows old new →
     IsNext levels t old fresh end s j before o → IsNext levels t new fresh end s j before o
 next-grows levels t old new fresh end s j before o within entry g is =
@@ -137,6 +147,7 @@ module _ {W : Type 0} (levels : W → Levels) (t : Square W) (nodes : List (Node
       }
 
 -- ---- the list with a new walk
+-- a walk of the round before with a step to j, not the start, is put behind the list
 pub walks_last : {W : Type 0} (levels : W → Levels) (t : Square W) (nodes : List (Node W)) (s steps end j : ℕ) (best : Candidate W) → j < t.side → j ≢ s → best.node < end → IsCandidate levels t nodes j best → IsGrowing levels t s steps end nodes →
     IsGrowing levels t s steps end (nodes ++ record { place = j; before = best.node; steps = steps; total = best.total } ∷ [])
 walks_last {W} levels t nodes s steps end j best inside other old is g =

@@ -18,10 +18,12 @@ last_alone x y = omega (arith, ints)
 total-step : (f : ℕ → ℕ → ℤ) (s : ℕ) (js : List ℕ) (i j : ℕ) → end_of s js ≡ i → total_along f s (js ++ j ∷ []) ≡ total_along f s js +ℤ f i j
 total-step f s js i j ends = total_along-append f s js (j ∷ []) ∙ last_alone (total_along f s js) (f (end_of s js) j) ∙ ap (λ (k : ℕ). total_along f s js +ℤ f k j) ends
 
+-- one step more adds its price
 pub open_total-step : (price : ℕ → ℕ → Levels) (s : ℕ) (js : List ℕ) (i j : ℕ) → end_of s js ≡ i → open_total price s (js ++ j ∷ []) ≡ levels_sum (open_total price s js) (price i j)
 open_total-step price s js i j ends =
     λ k. record { bulk = total-step (bulk_of price) s js i j ends k; fine = total-step (fine_of price) s js i j ends k }
 
+-- a walk that doesn't come back to s doesn't with one step more to a position other than s
 pub leads-step : (c : Chain) (s i j : ℕ) (js : List ℕ) → LeadsTo c s i js → IsStep c i j → s ≢ j → LeadsTo c s j (js ++ j ∷ [])
 leads-step c s i j js leads step away =
     record {
@@ -33,6 +35,7 @@ leads-step c s i j js leads step away =
 total-back : (f : ℕ → ℕ → ℤ) (s : ℕ) (js : List ℕ) (i : ℕ) → end_of s js ≡ i → total_back f s s js ≡ total_along f s js +ℤ f i s
 total-back f s js i ends = total_back-is f s s js ∙ ap (λ (k : ℕ). total_along f s js +ℤ f k s) ends
 
+-- a closed walk costs its walk out from s and the step back
 pub closed_total-back : (price : ℕ → ℕ → Levels) (s : ℕ) (js : List ℕ) (i : ℕ) → end_of s js ≡ i → closed_total price (s ∷ js) ≡ levels_sum (open_total price s js) (price i s)
 closed_total-back price s js i ends =
     λ k. record { bulk = total-back (bulk_of price) s js i ends k; fine = total-back (fine_of price) s js i ends k }
@@ -42,6 +45,7 @@ end_apart : (s : ℕ) (i : ℕ) (js : List ℕ) → s ≢ i → AllByRecursion (
 end_apart s i [] away all e = away (sym e)
 end_apart s i (j ∷ js) away all e = end_apart s j js all.0 all.1 e
 
+-- a walk from s that ends there has no steps, since it doesn't come back
 pub no_steps : (c : Chain) (s : ℕ) (js : List ℕ) → LeadsTo c s s js → js ≡ []
 no_steps c s [] leads = refl
 no_steps c s (j ∷ js) leads = absurd (end_apart s j js leads.away.0 leads.away.1 leads.ends)
@@ -64,6 +68,7 @@ module _ (c : Chain) (price : ℕ → ℕ → Levels) where
   is_reached : (s i : ℕ) (o : Option Levels) (a : Levels) → o ≡ Some a → IsLeastTotal c price s i o → IsLeast c price s i a
   is_reached s i o a e least = subst (IsLeastTotal c price s i) e least
 
+  -- where every closed walk reaches a threshold above 0, tables of least totals vouch for it
   pub vouches : (threshold : Levels) (entry : ℕ → ℕ → Option Levels) → IsBelow zero_levels threshold → AllAtLeast c price threshold → AreLeastTotals c price entry → VouchFor c price threshold entry
   vouches threshold entry above all least =
       record {

@@ -10,14 +10,17 @@ use Rattle.sc_tables.specs.Searches.{IsGrowing, Grows, IsEnd, AreEnds, IsNext, A
 use Rattle.sc_tables.proofs.Best.{same_item}
 use Rattle.sc_tables.proofs.Growing.{grows-trans, end-grows, next-grows}
 
+-- an entry names one of the first walks
 pub end_below : {W : Type 0} (nodes : List (Node W)) (end j : ℕ) (o : Option ℕ) (n : ℕ) → IsEnd nodes end j o → o ≡ Some n → n < end
 end_below nodes end j None n is e = absurd (cc)
 end_below nodes end j (Some m) n is e = let same : m ≡ n = same_item m n (Some m) refl e in omega (arith, is.1)
 
 module _ {W : Type 0} (levels : W → Levels) (t : Square W) (old nodes : List (Node W)) (fresh s steps : ℕ) (row next : List (Option ℕ)) (k : ℕ) where
+  -- an entry of the row before a round names one of the walks before the round, in the grown list too
   pub row_entry : (end : ℕ) → end ≡ length old → AreEnds old row → k < length row → Grows old nodes → IsEnd nodes end k (get_or row k None)
   row_entry end e entries inside g = rw e (end-grows old nodes (length old) k (get_or row k None) g (entries k inside))
 
+  -- one entry more of the row after a round
   pub row_step : (new : List (Node W)) (o : Option ℕ) → AreNextBelow levels t old nodes fresh s steps row next k → AreEnds old row → k < length row → Grows nodes new → IsGrowing levels t s steps (length old) new →
       IsNext levels t new fresh (length old) s k (get_or row k None) o → AreNextBelow levels t old new fresh s steps row (next ++ o ∷ []) (k + 1)
   row_step new o are entries inside g growing is =

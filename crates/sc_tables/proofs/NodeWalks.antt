@@ -19,6 +19,7 @@ unsnoc : (x : ℕ) (xs : List ℕ) → (front : List ℕ) × (z : ℕ) × (x ∷
 unsnoc x [] = ([], x, refl)
 unsnoc x (y ∷ xs) = let (front, z, is) = unsnoc y xs in (x ∷ front, z, ap (λ (ys : List ℕ). x ∷ ys) is)
 
+-- a walk from s to j as a walk from s and a last step, which leads to j
 pub record LastStep (c : Chain) (s j : ℕ) (js : List ℕ) : Type 0 where
   pub front : List ℕ
   pub from : ℕ
@@ -27,6 +28,7 @@ pub record LastStep (c : Chain) (s j : ℕ) (js : List ℕ) : Type 0 where
   pub step : IsStep c from j
   pub away : s ≢ j
 
+-- a walk has no steps or a last one
 pub last_step_of : (c : Chain) (s j : ℕ) (js : List ℕ) → LeadsTo c s j js → (js ≡ []) ⊎ LastStep c s j js
 last_step_of c s j [] leads = inl refl
 last_step_of c s j (k ∷ ks) leads =
@@ -47,16 +49,19 @@ last_step_of c s j (k ∷ ks) leads =
     }))
 
 -- ---- the walk of a node
+-- a walk from s to the node's place with its total, of at most as many steps as it tells
 pub record IsWalkTo {W : Type 0} (levels : W → Levels) (c : Chain) (t : Square W) (s : ℕ) (x : Node W) : Type 0 where
   pub walk : List ℕ
   pub leads : LeadsTo c s x.place walk
   pub total : open_total (price_in levels t) s walk ≡ levels x.total
   pub few : length walk ≤ x.steps
 
+-- an entry of the table is the price of its step
 pub price_at : {W : Type 0} (levels : W → Levels) (t : Square W) (i j : ℕ) (w : W) → cell t j i ≡ Some w → price_in levels t i j ≡ levels w
 price_at levels t i j w e = ap (level_of levels) e
 
 module _ {W : Type 0} (levels : W → Levels) (c : Chain) (t : Square W) (s : ℕ) (fits : AreForChain c t) where
+  -- where the node x extends m, there is a walk to x if there is one to m
   pub extended : (m x : Node W) → m.place < t.side → x.place < t.side → Extends levels t s m x → IsWalkTo levels c t s m → IsWalkTo levels c t s x
   extended m x from to is w =
       let step : IsStep c m.place x.place = fits.only m.place x.place is.price (omega (arith, fits.side)) (omega (arith, fits.side)) is.step in
@@ -80,5 +85,6 @@ module _ {W : Type 0} (levels : W → Levels) (c : Chain) (t : Square W) (s : �
       let (m, earlier, at, is) = are.later n x here in
       extended m x (are.placed x.before m at) (are.placed (suc n) x here) is (walk_below most nodes are k x.before m (omega arith) at)
 
+  -- each node of a search has a walk
   pub walk_of : (most : ℕ) (nodes : List (Node W)) → AreWalks levels t s most nodes → (n : ℕ) (x : Node W) → slice_get nodes n ≡ Some x → IsWalkTo levels c t s x
   walk_of most nodes are n x here = walk_below most nodes are (suc n) n x (omega arith) here

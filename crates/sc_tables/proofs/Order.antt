@@ -28,6 +28,7 @@ threshold_sum t x y above h k = grind (arith, ints)
 pub at_most_rest : (x y : Levels) → IsAtMost zero_levels x → IsAtMost y (levels_sum x y)
 at_most_rest x y h = grind (arith, ints)
 
+-- 0 may be left out of a sum
 pub at_most_zero_sum : (t r : Levels) → IsAtMost t (levels_sum zero_levels r) → IsAtMost t r
 at_most_zero_sum t r h = grind (arith, ints)
 

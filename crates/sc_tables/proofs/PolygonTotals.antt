@@ -29,6 +29,7 @@ step_back c start i [] (suc k) walk inside = absurd (omega arith)
 step_back c start i (j ∷ js) zero walk inside = walk.0
 step_back c start i (j ∷ js) (suc k) walk inside = step_back c start j js k walk.1 (omega arith)
 
+-- the step number k leads from the position number k to the next one, the last to the first
 pub step_at : (c : Chain) (walk : List ℕ) (k : ℕ) → IsClosedWalk c walk → k < length walk → IsStep c (get_or walk k 0) (get_or (round walk) k 0)
 step_at c [] k walk inside = absurd walk
 step_at c (i ∷ js) k walk inside = step_back c i i js k walk inside
@@ -38,6 +39,7 @@ end_back start i js zero inside = refl
 end_back start i [] (suc k) inside = absurd (omega arith)
 end_back start i (j ∷ js) (suc k) inside = end_back start j js k (omega arith)
 
+-- after k steps a closed walk stands at its position number k
 pub end_after : (walk : List ℕ) (k : ℕ) → k < length walk → end_of (get_or walk 0 0) (take k (round walk)) ≡ get_or walk k 0
 end_after [] k inside = absurd (omega arith)
 end_after (i ∷ js) k inside = end_back i i js k (omega arith)
@@ -46,6 +48,7 @@ pub length-round : (walk : List ℕ) → length (round walk) ≡ length walk
 length-round [] = refl
 length-round (i ∷ js) = length-append js (i ∷ []) ∙ omega arith
 
+-- a closed walk goes from its first position along the others and back to it
 pub walks_round : (c : Chain) (walk : List ℕ) → IsClosedWalk c walk → WalksAlong c (get_or walk 0 0) (round walk)
 walks_round c [] walk = absurd walk
 walks_round c (i ∷ js) walk = walks-append c i js (i ∷ []) (walks_out c i i js walk) (last_step c i i js walk, tt)
@@ -55,6 +58,7 @@ front_back start i js zero inside = refl
 front_back start i [] (suc k) inside = absurd (omega arith)
 front_back start i (j ∷ js) (suc k) inside = ap (λ (ys : List ℕ). i ∷ ys) (front_back start j js k (omega arith))
 
+-- the first k + 1 positions are the first one and the ends of the first k steps
 pub front_after : (walk : List ℕ) (k : ℕ) → k < length walk → take (k + 1) walk ≡ get_or walk 0 0 ∷ take k (round walk)
 front_after [] k inside = absurd (omega arith)
 front_after (i ∷ js) k inside = ap (λ (n : ℕ). take n (i ∷ js)) one ∙ front_back i i js k (omega arith)
@@ -69,14 +73,17 @@ take_split (x ∷ xs) (suc k) = let (rest, is) = take_split xs k in (rest, ap (�
 
 -- ---- totals after some steps
 module _ (price : ℕ → ℕ → Levels) (walk : List ℕ) where
+  -- no steps have the total 0
   pub total-first : zero_levels ≡ total_after price walk 0
   total-first = refl
 
+  -- one step more adds its price
   pub total-next : (k : ℕ) → k < length walk → levels_sum (total_after price walk k) (price (get_or walk k 0) (get_or (round walk) k 0)) ≡ total_after price walk (k + 1)
   total-next k inside =
       sym (open_total-step price (get_or walk 0 0) (take k (round walk)) (get_or walk k 0) (get_or (round walk) k 0) (end_after walk k inside))
       ∙ ap (open_total price (get_or walk 0 0)) (sym (take_more (round walk) k 0 (omega (arith, length-round walk))))
 
+-- after all steps the total is that of the closed walk
 pub total-all : (price : ℕ → ℕ → Levels) (c : Chain) (walk : List ℕ) → IsClosedWalk c walk → total_after price walk (length walk) ≡ closed_total price walk
 total-all price c [] closed = absurd closed
 total-all price c (i ∷ js) closed =
@@ -84,6 +91,7 @@ total-all price c (i ∷ js) closed =
     ∙ open_total-step price i js (end_of i js) i refl ∙ sym (closed_total-back price i js (end_of i js) refl)
 
 -- ---- the evidence at a step
+-- where a polygon's total is too wide at the step number k, the walk up to the end of that step shows it
 pub wide_step : (c : Chain) (price : ℕ → ℕ → Levels) (walk : List ℕ) (k : ℕ) (wide : WideLevel) → IsPolygon c walk → k < length walk →
     IsFirstWideLevel Add (levels_sum (total_after price walk k) (price (get_or walk k 0) (get_or (round walk) k 0))) (total_after price walk k) (price (get_or walk k 0) (get_or (round walk) k 0)) wide →
     IsWideWalk c price (take (k + 1) walk ++ get_or (round walk) k 0 ∷ []) wide.level wide.wide
@@ -115,6 +123,7 @@ not_empty : (c : Chain) (walk : List ℕ) → IsClosedWalk c walk → ¬ HaveSte
 not_empty c [] closed have = closed
 not_empty c (i ∷ js) closed have = let none = have (climb (λ _. 0)) in let all = walk_total-climb (λ _. 0) (i ∷ js) in absurd (omega (arith, ints, none, all))
 
+-- where a closed walk below the threshold is split into one polygon, that polygon is below it
 pub only_below : (c : Chain) (price : ℕ → ℕ → Levels) (t : Levels) (walk : List ℕ) (w : List ℕ) (ws : List (List ℕ)) → length ws ≡ 1 → w ≡ get_or ws 0 [] → AllByRecursion (IsPolygon c) ws → IsClosedBelow c price t walk → HaveStepsOf ws walk → IsPolygonBelow c price t w
 only_below c price t walk w [] one at all is have = absurd (omega arith)
 only_below c price t walk w (v ∷ u ∷ ws) one at all is have = absurd (omega arith)
@@ -122,6 +131,7 @@ only_below c price t walk w (v ∷ []) one at all is have =
     let same : closed_total price v ≡ closed_total price walk = sym (levels_sum_zero (closed_total price v)) ∙ (λ i. record { bulk = have (bulk_of price) i; fine = have (fine_of price) i }) in
     subst (IsPolygonBelow c price t) (sym at) (record { polygon = all.0; below = subst (λ (l : Levels). IsBelow l t) (sym same) is.below })
 
+-- where a closed walk below the threshold is split into polygons, not each of them reaches it
 pub some_below : (c : Chain) (price : ℕ → ℕ → Levels) (t : Levels) (walk : List ℕ) (ws : List (List ℕ)) → IsBelow zero_levels t → IsClosedBelow c price t walk → HaveStepsOf ws walk → ¬ ((k : ℕ) → k < length ws → IsAtMost t (closed_total price (get_or ws k [])))
 some_below c price t walk [] above is have all = not_empty c walk is.closed have
 some_below c price t walk (w ∷ ws) above is have all =

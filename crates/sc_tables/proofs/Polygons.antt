@@ -23,6 +23,7 @@ put_last [] x simple away = (tt, tt)
 put_last (y ∷ xs) x simple away =
     (all-append (λ j. y ≢ j) xs (x ∷ []) simple.0 ((λ e. away.0 (sym e)), tt), put_last xs x simple.1 away.1)
 
+-- a list without repeats has none when it is begun at another of its places
 pub simple-turned : (a b : List ℕ) → HasNoRepeat (a ++ b) → HasNoRepeat (b ++ a)
 simple-turned [] b simple = subst HasNoRepeat (sym (append-nil b)) simple
 simple-turned (x ∷ a) b simple =
@@ -38,6 +39,7 @@ pub record LeastPlace (xs : List ℕ) : Type 0 where
   pub is : xs ≡ before ++ place ∷ after
   pub least : AllByRecursion (λ j. place ≤ j) xs
 
+-- each list but the empty one has a least number
 pub least_place : (x : ℕ) (xs : List ℕ) → LeastPlace (x ∷ xs)
 least_place x [] = record { before = []; place = x; after = []; is = refl; least = (omega arith, tt) }
 least_place x (y ∷ xs) =
@@ -51,6 +53,7 @@ greater : (x : ℕ) (xs : List ℕ) → Apart x xs → AllByRecursion (λ j. x �
 greater x [] away least = tt
 greater x (y ∷ xs) away least = (omega (arith, away.0, least.0), greater x xs away.1 least.1)
 
+-- a closed walk without repeats is a polygon when it is begun at its least position
 pub polygon_from : (c : Chain) (a : List ℕ) (x : ℕ) (b : List ℕ) → IsClosedWalk c (a ++ x ∷ b) → HasNoRepeat (a ++ x ∷ b) → AllByRecursion (λ j. x ≤ j) (a ++ x ∷ b) → IsPolygon c (x ∷ (b ++ a))
 polygon_from c a x b closed simple least =
     let apart : HasNoRepeat (x ∷ (b ++ a)) = simple-turned a (x ∷ b) simple in
@@ -97,5 +100,6 @@ module _ (c : Chain) (price : ℕ → ℕ → Levels) (threshold : Levels) where
     | inr r ↦ repeat_at_least above walk (λ shorter less. closed_at_least above none n shorter (omega arith)) closed r
   ]
 
+  -- where no polygon is below the threshold, no closed walk is
   pub polygons_decide : IsBelow zero_levels threshold → ((walk : List ℕ) → ¬ IsPolygonBelow c price threshold walk) → AllAtLeast c price threshold
   polygons_decide above none walk closed = closed_at_least above none (suc (length walk)) walk (omega arith) closed

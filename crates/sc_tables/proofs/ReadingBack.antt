@@ -26,6 +26,7 @@ use Rattle.sc_tables.proofs.LeastTotals.{closed_total-back}
 use Rattle.sc_tables.proofs.Best.{same_item}
 use Rattle.sc_tables.proofs.NodeWalks.{price_at}
 
+-- the nodes of a search can be read back: each but the first one comes after the one before it
 pub linked_from : {W : Type 0} (levels : W → Levels) (t : Square W) (s most : ℕ) (nodes : List (Node W)) → t.side ≤ 64 → most ≤ 64 → AreWalks levels t s most nodes → AreLinked nodes
 linked_from {W} levels t s most nodes small short are =
     record {
@@ -58,6 +59,7 @@ module _ {W : Type 0} (levels : W → Levels) where
         few = omega (arith, is.steps, goes.few);
       }
 
+  -- one node more is read
   pub read_next : (nodes : List (Node W)) (n here : ℕ) (y : Node W) (back : List ℕ) → IsReadTo levels nodes n here back → AreLinked nodes → 0 < here → slice_get nodes here ≡ Some y → IsReadTo levels nodes n y.before (back ++ y.place ∷ [])
   read_next nodes n zero y back is linked later at = absurd (omega arith)
   read_next nodes n (suc k) y back is linked later at =
@@ -71,6 +73,7 @@ module _ {W : Type 0} (levels : W → Levels) where
             (goes_more c t s m y x (reverse back) fits (are.placed y.before m mine) (are.placed (suc k) y at) (subst (λ (z : Node W). Extends levels t s z y) same ext) goes));
       }
 
+  -- with the first node all of the walk is read, from its start on
   pub read_last : (nodes : List (Node W)) (n here : ℕ) (y : Node W) (back : List ℕ) → IsReadTo levels nodes n here back → here ≡ 0 → slice_get nodes 0 ≡ Some y → ReadsTo levels nodes n (reverse (back ++ y.place ∷ []))
   read_last nodes n here y back is none first c t s most x fits are there =
       let goes = is.goes c t s most x y fits are there (ap (slice_get nodes) none ∙ first) in
@@ -105,6 +108,7 @@ module _ {W : Type 0} (levels : W → Levels) where
         below = subst (λ (l : Levels). IsBelow l threshold) (sym total) closes.below;
       })
 
+  -- where a step's sum is too wide, the walk that was read with that step behind it shows it
   pub wide_walk : (c : Chain) (t : Square W) (s most end n to : ℕ) (wide : WideLevel) (nodes : List (Node W)) (walk : List ℕ) → AreForChain c t → AreWalks levels t s most nodes → IsWideAt levels t nodes end to n wide → to < positions c →
       ((x : Node W) → slice_get nodes n ≡ Some x → x.steps < positions c) → ReadsTo levels nodes n walk → IsWideWalk c (price_in levels t) (walk ++ to ∷ []) wide.level wide.wide
   wide_walk c t s most end n to wide nodes walk fits are is inside short reads =
@@ -125,10 +129,12 @@ module _ {W : Type 0} (levels : W → Levels) where
 
 -- ---- the fault of a stop
 module _ {W : Type 0} (levels : W → Levels) (t : Square W) (nodes : List (Node W)) where
+  -- a stop of a search names a node and a position
   pub names_node : (most : ℕ) (stop : Stop) → t.side ≤ 64 → StopsWithin levels t nodes most stop → NamesNode nodes stop
   names_node most (Wide n to wide) small is = let at = is.stop_is.1 in (slice_get_within nodes n at.here at.here_is, omega (arith, is.inside, is.stop_is.0))
   names_node most Memory small is = tt
 
+  -- what shows a stop of a search is a fault of the tables
   pub stop_shown : (c : Chain) (s : ℕ) (stop : Stop) (fault : TableFault) → AreForChain c t → AreWalks levels t s (positions c) nodes → StopsWithin levels t nodes (positions c) stop → ShowsStop levels nodes stop fault → IsTableFault c (price_in levels t) fault
   stop_shown c s (Wide n to wide) fault fits are is shows =
       let at : IsWideAt levels t nodes is.end to n wide = subst (λ (k : ℕ). IsWideAt levels t nodes is.end k n wide) (sym is.stop_is.0) is.stop_is.1 in

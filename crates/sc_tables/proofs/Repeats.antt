@@ -14,11 +14,13 @@ pub record Repeat (xs : List ℕ) : Type 0 where
   pub after : List ℕ
   pub is : xs ≡ before ++ place ∷ (between ++ place ∷ after)
 
+-- x stands in the list
 pub record Found (x : ℕ) (xs : List ℕ) : Type 0 where
   pub before : List ℕ
   pub after : List ℕ
   pub is : xs ≡ before ++ x ∷ after
 
+-- a number is none of the list, or stands in it
 pub find : (x : ℕ) (xs : List ℕ) → AllByRecursion (λ j. x ≢ j) xs ⊎ Found x xs
 find x [] = inl tt
 find x (y ∷ xs) = elim (cases_eq x y) [
@@ -39,6 +41,7 @@ simple_or_repeat (x ∷ xs) = elim (find x xs) [
   ]
 ]
 
+-- what holds of all numbers of a list holds of the one at each index
 pub all_at : (P : ℕ → Type 0) (xs : List ℕ) → AllByRecursion P xs → (k : ℕ) → k < length xs → P (get_or xs k 0)
 all_at P [] all k inside = absurd (omega arith)
 all_at P (x ∷ xs) all zero inside = all.0
@@ -57,6 +60,7 @@ simple_is_short n xs simple below = elim (cases_lt n (length xs)) [
       | inr past ↦ omega arith
     ]
 
+-- what holds of all of two lists holds of all of both together, and the other way round
 pub all-append : (P : ℕ → Type 0) (xs ys : List ℕ) → AllByRecursion P xs → AllByRecursion P ys → AllByRecursion P (xs ++ ys)
 all-append P [] ys front rest = rest
 all-append P (x ∷ xs) ys front rest = (front.0, all-append P xs ys front.1 rest)
@@ -69,6 +73,7 @@ pub all_rest : (P : ℕ → Type 0) (xs ys : List ℕ) → AllByRecursion P (xs 
 all_rest P [] ys all = all
 all_rest P (x ∷ xs) ys all = all_rest P xs ys all.1
 
+-- what follows from P holds of all of a list where P does
 pub all-map : (P Q : ℕ → Type 0) → ((x : ℕ) → P x → Q x) → (xs : List ℕ) → AllByRecursion P xs → AllByRecursion Q xs
 all-map P Q f [] all = tt
 all-map P Q f (x ∷ xs) all = (f x all.0, all-map P Q f xs all.1)

@@ -55,6 +55,7 @@ module _ {W : Type 0} (levels : W → Levels) (c : Chain) (t : Square W) (thresh
   cover_at (Some n) v total (x, here, is) (y, there, low) =
       (levels x.total, mapped_some v x.total is, subst (λ (z : Node W). IsAtMost (levels z.total) total) (same_item y x (slice_get nodes n) there here) low)
 
+  -- the totals of the walks that the row names at a search's end are those of a searched row
   pub row_searched : (cells : ℕ → Option W) → ((j : ℕ) → j < positions c → IsTotalOf nodes (get_or row j None) (cells j)) → IsSearched c (price_in levels t) threshold s (λ j. option_map levels (cells j))
   row_searched cells totals =
       record {
@@ -63,6 +64,7 @@ module _ {W : Type 0} (levels : W → Levels) (c : Chain) (t : Square W) (thresh
         back = done.back;
       }
 
+  -- the totals of the row of s are put behind those of the rows before it
   pub next_searched : (old new : List (Option W)) → AreSearched levels c (price_in levels t) threshold t.side s old → AreTotalsAfter nodes row old new (length row) → AreSearched levels c (price_in levels t) threshold t.side (s + 1) new
   next_searched old new before after =
       record {

@@ -14,6 +14,7 @@ use Rattle.sc_tables.proofs.Repeats.{Repeat, simple_or_repeat, simple_is_short, 
 end-cut : (i : ℕ) (a : List ℕ) (x : ℕ) (b d : List ℕ) → end_of i (a ++ x ∷ (b ++ x ∷ d)) ≡ end_of i (a ++ x ∷ d)
 end-cut i a x b d = end_of-append i a (x ∷ (b ++ x ∷ d)) ∙ end_of-append x b (x ∷ d) ∙ sym (end_of-append i a (x ∷ d))
 
+-- a walk from s to j as well, of fewer steps than a bound, that costs no more
 pub record Shorter (c : Chain) (price : ℕ → ℕ → Levels) (s j : ℕ) (js : List ℕ) (bound : ℕ) : Type 0 where
   pub walk : List ℕ
   pub leads : LeadsTo c s j walk
@@ -21,6 +22,7 @@ pub record Shorter (c : Chain) (price : ℕ → ℕ → Levels) (s j : ℕ) (js 
   pub lower : IsAtMost (open_total price s walk) (open_total price s js)
 
 module _ (c : Chain) (price : ℕ → ℕ → Levels) (sound : AllAtLeast c price zero_levels) (s j : ℕ) (inside : s < positions c) where
+  -- from a walk that passes a position twice the closed walk between is cut out
   pub cut_once : (js : List ℕ) → LeadsTo c s j js → Repeat js → Shorter c price s j js (length js)
   cut_once js leads r =
       let walks : WalksAlong c s (r.before ++ r.place ∷ (r.between ++ r.place ∷ r.after)) = subst (WalksAlong c s) r.is leads.walks in
@@ -61,5 +63,6 @@ module _ (c : Chain) (price : ℕ → ℕ → Levels) (sound : AllAtLeast c pric
         record { walk = rest.walk; leads = rest.leads; short = rest.short; lower = at_most-trans (open_total price s rest.walk) (open_total price s once.walk) (open_total price s js) rest.lower once.lower })
   ]
 
+  -- for each walk there is one of fewer steps than there are positions that costs no more
   pub short_suffices : (js : List ℕ) → LeadsTo c s j js → Shorter c price s j js (positions c)
   short_suffices js leads = shorten (suc (length js)) js (omega arith) leads

@@ -11,9 +11,11 @@ use Rattle.sc_tables.proofs.WalkLaws.{cut_between, cut_rest, total-cut, total-tu
 use Rattle.sc_tables.proofs.Polygons.{polygon_from, put_last}
 use Rattle.sc_tables.proofs.Repeats.{all_front}
 
+-- what is left from a place on, taken at its full length, is all of it
 pub rest_whole : (xs : List ℕ) (k : ℕ) → take (length xs - k) (drop k xs) ≡ drop k xs
 rest_whole xs k = ap (λ (n : ℕ). take n (drop k xs)) (sym (length-drop k xs)) ∙ take-length (drop k xs)
 
+-- what is left from a place on is the number there and what is left from the next place on
 pub drop_here : (xs : List ℕ) (i : ℕ) → i < length xs → drop i xs ≡ get_or xs i 0 ∷ drop (i + 1) xs
 drop_here [] i inside = absurd (omega arith)
 drop_here (x ∷ xs) zero inside = refl
@@ -22,6 +24,7 @@ drop_here (x ∷ xs) (suc i) inside = drop_here xs i (omega arith) ∙ ap (λ (n
     shift : (i : ℕ) → suc (i + 1) ≡ suc i + 1
     shift i = omega arith
 
+-- from the end on nothing is left
 pub drop_all : (xs : List ℕ) (i : ℕ) → length xs ≤ i → drop i xs ≡ []
 drop_all [] zero past = refl
 drop_all [] (suc i) past = refl
@@ -29,6 +32,7 @@ drop_all (x ∷ xs) zero past = absurd (omega arith)
 drop_all (x ∷ xs) (suc i) past = drop_all xs i (omega arith)
 
 -- ---- the polygon of a closed walk without repeats
+-- a list cut at its place k: what is before it, the number there, and the rest
 pub record Parts (xs : List ℕ) (k : ℕ) : Type 0 where
   pub place : ℕ
   pub rest : List ℕ
@@ -43,10 +47,12 @@ parts (x ∷ xs) (suc k) inside =
     let p = parts xs k (omega arith) in
     record { place = p.place; rest = p.rest; whole = ap (λ (ys : List ℕ). x ∷ ys) p.whole; back = p.back; at = p.at }
 
+-- what holds of the number at each index holds of all
 pub all_by_index : (P : ℕ → Type 0) (xs : List ℕ) → ((k : ℕ) → k < length xs → P (get_or xs k 0)) → AllByRecursion P xs
 all_by_index P [] h = tt
 all_by_index P (x ∷ xs) h = (h 0 (omega arith), all_by_index P xs (λ k inside. h (suc k) (omega arith)))
 
+-- a closed walk without repeats, begun at a place with its least position, is a polygon with the same steps
 pub polygon_at : (c : Chain) (xs : List ℕ) (k : ℕ) → k < length xs → IsClosedWalk c xs → HasNoRepeat xs → ((i : ℕ) → i < length xs → get_or xs k 0 ≤ get_or xs i 0) → IsPolygonOf c xs (drop k xs ++ take k xs)
 polygon_at c xs k inside closed simple least =
     let p = parts xs k inside in
@@ -59,6 +65,7 @@ polygon_at c xs k inside closed simple least =
     }
 
 -- ---- one position more
+-- where the walk comes to a position of the path again, the path from there on is a closed walk
 pub may_return : (c : Chain) (path : List ℕ) (x : ℕ) (rest : List ℕ) → IsClosedWalk c (path ++ x ∷ rest) → (a b : List ℕ) → path ≡ a ++ x ∷ b → IsClosedWalk c (x ∷ b)
 may_return c path x rest closed a b is =
     cut_between c b x rest a (subst (IsClosedWalk c) (ap (λ (ys : List ℕ). ys ++ x ∷ rest) is ∙ append_assoc a (x ∷ b) (x ∷ rest)) closed)
@@ -71,10 +78,12 @@ simple_back : (xs ys : List ℕ) → HasNoRepeat (xs ++ ys) → HasNoRepeat ys
 simple_back [] ys simple = simple
 simple_back (x ∷ xs) ys simple = simple_back xs ys simple.1
 
+-- one walk more adds its total
 pub walks_total-last : (f : ℕ → ℕ → ℤ) (ws : List (List ℕ)) (w : List ℕ) → walks_total f (ws ++ w ∷ []) ≡ walks_total f ws +ℤ walk_total f w
 walks_total-last f [] w = omega (arith, ints)
 walks_total-last f (v ∷ ws) w = omega (arith, ints, walks_total-last f ws w)
 
+-- what holds of all walks and of one more holds of all with it
 pub all_last : (P : List ℕ → Type 0) (ws : List (List ℕ)) (w : List ℕ) → AllByRecursion P ws → P w → AllByRecursion P (ws ++ w ∷ [])
 all_last P [] w all last = (last, tt)
 all_last P (v ∷ ws) w all last = (all.0, all_last P ws w all.1 last)
@@ -117,6 +126,7 @@ module _ (c : Chain) (walk path new : List ℕ) (x : ℕ) (rest : List ℕ) (pol
             ∙ regrouped (walks_total f polygons) (walk_total f (path ++ x ∷ rest)) (walk_total f is.polygon) (walk_total f (new ++ rest)) (walk_total f walk) (so_far.steps f) split);
       }
 
+  -- the next position goes behind the path, or cuts off the polygon that it closes
   pub split_step : GoesOn x path new polygons made ⊎ CutsOff c x path new polygons made → IsSplitSoFar c walk new rest made
   split_step (inl is) = gone_on is
   split_step (inr is) = cut_off is
@@ -132,6 +142,7 @@ module _ (c : Chain) (path : List ℕ) (x k : ℕ) (inside : k < length path) (a
   was : path ≡ take k path ++ x ∷ from_there.rest
   was = let p = from_there in p.whole ∙ ap (λ (y : ℕ). take k path ++ y ∷ p.rest) (sym p.at ∙ at)
 
+  -- the path from a place on is a closed walk without repeats
   pub passed_closed : ((a b : List ℕ) → path ≡ a ++ x ∷ b → IsClosedWalk c (x ∷ b)) → IsClosedWalk c (drop k path)
   passed_closed returns = subst (IsClosedWalk c) back_is (returns (take k path) from_there.rest was)
 
@@ -141,6 +152,7 @@ module _ (c : Chain) (path : List ℕ) (x k : ℕ) (inside : k < length path) (a
   stays : take (k + 1) path ≡ take k path ++ x ∷ []
   stays = let p = from_there in take_more path k 0 inside ∙ ap (λ (y : ℕ). take k path ++ y ∷ []) at
 
+  -- the polygon of that walk is cut off, and the path up to the place stays
   pub cuts_off : (new : List ℕ) (polygons made : List (List ℕ)) (polygon : List ℕ) → new ≡ take (k + 1) path → IsPolygonOf c (drop k path) polygon → made ≡ polygons ++ polygon ∷ [] → CutsOff c x path new polygons made
   cuts_off new polygons made polygon cut is added =
       record {
@@ -158,9 +170,11 @@ module _ (c : Chain) (walk path rest : List ℕ) (polygons : List (List ℕ)) (s
   at_end : path ++ rest ≡ path
   at_end = ap (λ (ys : List ℕ). path ++ ys) none ∙ append-nil path
 
+  -- the path that is left at the end is a closed walk
   pub last_closed : IsClosedWalk c path
   last_closed = subst (IsClosedWalk c) at_end so_far.closed
 
+  -- with the polygon of that walk all are polygons, and have the steps of the whole walk
   pub last_valid : (p : List ℕ) → IsPolygonOf c path p → AllByRecursion (IsPolygon c) (polygons ++ p ∷ [])
   last_valid p is = all_last (IsPolygon c) polygons p so_far.valid is.valid
 

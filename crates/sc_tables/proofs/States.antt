@@ -19,11 +19,13 @@ use Rattle.sc_tables.proofs.NextRows.{end_below}
 use Rattle.sc_tables.proofs.NodeWalks.{last_step_of, price_at}
 
 -- ---- entries
+-- a row has entries only within its length
 pub entry_inside : (row : List (Option ℕ)) (i n : ℕ) → get_or row i None ≡ Some n → i < length row
 entry_inside [] i n e = absurd (cc)
 entry_inside (o ∷ row) zero n e = omega arith
 entry_inside (o ∷ row) (suc i) n e = omega (arith, entry_inside row i n e)
 
+-- the walk that the entry of j names ends at j
 pub end_place : {W : Type 0} (nodes : List (Node W)) (end j : ℕ) (o : Option ℕ) (n : ℕ) (x : Node W) → IsEnd nodes end j o → o ≡ Some n → slice_get nodes n ≡ Some x → x.place ≡ j
 end_place nodes end j None n x is e here = absurd (cc)
 end_place nodes end j (Some m) n x (y, inside, there, at) e here =
@@ -31,6 +33,7 @@ end_place nodes end j (Some m) n x (y, inside, there, at) e here =
     let node : y ≡ x = same_item y x (slice_get nodes n) (subst (λ (k : ℕ). slice_get nodes k ≡ Some y) same there) here in
     subst (λ (z : Node _). z.place ≡ j) node at
 
+-- the walk that an entry names, with at most this total
 pub record LowerAt {W : Type 0} (levels : W → Levels) (nodes : List (Node W)) (o : Option ℕ) (total : Levels) : Type 0 where
   pub number : ℕ
   pub is : o ≡ Some number
@@ -38,12 +41,14 @@ pub record LowerAt {W : Type 0} (levels : W → Levels) (nodes : List (Node W)) 
   pub here : slice_get nodes number ≡ Some node
   pub low : IsAtMost (levels node.total) total
 
+-- an entry with at most this total names a walk
 pub lower_at : {W : Type 0} (levels : W → Levels) (nodes : List (Node W)) (o : Option ℕ) (total : Levels) → Lower levels nodes o total → LowerAt levels nodes o total
 lower_at levels nodes None total is = absurd is
 lower_at levels nodes (Some n) total (x, here, low) = record { number = n; is = refl; node = x; here = here; low = low }
 
 -- ---- walks that are longer by a step
 module _ {W : Type 0} (levels : W → Levels) (c : Chain) (t : Square W) (s : ℕ) (fits : AreForChain c t) (inside : s < t.side) (a b : List (Node W)) (row next : List (Option ℕ)) where
+  -- where the new row has at most each total of the old one with a step more, it covers walks of one step more
   pub cover_more : Lower levels b (get_or next s None) zero_levels →
       ((i n j : ℕ) (x : Node W) (w : W) → get_or row i None ≡ Some n → slice_get a n ≡ Some x → j < t.side → j ≢ s → cell t j i ≡ Some w → Lower levels b (get_or next j None) (levels_sum (levels x.total) (levels w))) →
       (k : ℕ) → CoversWalks levels c t s a row k → CoversWalks levels c t s b next (suc k)
@@ -74,6 +79,7 @@ module _ {W : Type 0} (levels : W → Levels) (c : Chain) (t : Square W) (thresh
         reach n x w new here (subst (λ (k : ℕ). cell t s k ≡ Some w) (sym at) step))
   ]
 
+  -- a step back to s costs at least the threshold in all, where the entry costs no more than the walk to it
   pub back_of : (i : ℕ) (js : List ℕ) → Lower levels nodes (get_or row i None) (open_total (price_in levels t) s js) → IsStep c i s → IsAtMost threshold (levels_sum (open_total (price_in levels t) s js) (price_in levels t i s))
   back_of i js lower step =
       let low = lower_at levels nodes (get_or row i None) _ lower in
@@ -82,6 +88,7 @@ module _ {W : Type 0} (levels : W → Levels) (c : Chain) (t : Square W) (thresh
       subst (λ (l : Levels). IsAtMost threshold (levels_sum (open_total (price_in levels t) s js) l)) (sym (price_at levels t i s w at))
       (at_most-trans threshold _ (levels_sum (open_total (price_in levels t) s js) (levels w)) high (at_most-sum _ _ (levels w) (levels w) low.low (at_most-refl (levels w))))
 
+  -- walks of one step more don't come back to s below the threshold either
   pub back_next : ReachBack levels c t threshold s (suc r)
   back_next i js leads short step = back_of i js (state.covers i js leads (omega arith)) step
 
@@ -119,6 +126,7 @@ module _ {W : Type 0} (levels : W → Levels) (c : Chain) (t : Square W) (thresh
     ends_next : AreEnds new next
     ends_next j within = (entries j (omega (arith, len))).placed
 
+    -- one round leads to the state after one round more
     pub next_state : IsState levels c t threshold s (r + 1) (length nodes) new next
     next_state =
         record {
@@ -145,6 +153,7 @@ module _ {W : Type 0} (levels : W → Levels) (c : Chain) (t : Square W) (thresh
           (λ i n j x w e here within other step. step_all i n j x w (same_entry i n e (all_old i n e)) (item_before nodes new n x grows (all_old i n e) here) within other step)
           k (cover_all k) j js leads short
 
+      -- after a round that adds no walk the search has ended, since no round can add one
       pub still_done : IsDone levels c t threshold s new next
       still_done =
           record {
@@ -159,10 +168,12 @@ module _ {W : Type 0} (levels : W → Levels) (c : Chain) (t : Square W) (thresh
 
 -- ---- the first state, and the end after all rounds
 module _ {W : Type 0} (levels : W → Levels) (c : Chain) (t : Square W) (threshold : Levels) (s : ℕ) (nodes : List (Node W)) (row : List (Option ℕ)) where
+  -- after as many rounds as there are positions the search has ended
   pub all_done : (fresh : ℕ) → IsState levels c t threshold s (positions c) fresh nodes row → IsDone levels c t threshold s nodes row
   all_done fresh state =
       record { len = state.len; ends = state.ends; covers = λ j js leads short. state.covers j js leads (omega arith); back = state.back }
 
+  -- the row that names the walk without steps alone is the state after no rounds
   pub first_state : s < t.side → IsBegun levels t.side s nodes row → IsState levels c t threshold s 0 0 nodes row
   first_state inside begun = at_node begun.node
     where

@@ -45,6 +45,7 @@ few_pairs c =
 square_below : (n : ℕ) → n ≤ 64 → n * n ≤ 4096
 square_below n few = grind arith
 
+-- the number of a pair's row fits 32 bits
 pub pairs_fit : (c : Chain) (row : ℕ) → positions c ≤ 64 → row < length (pairs c) → row < 2 ^ 32
 pairs_fit c row few inside = omega (arith, few_pairs c, square_below (positions c) few)
 
@@ -59,6 +60,7 @@ module _ {W : Type 0} (levels : W → Levels) (c : Chain) (pair : List W) (p q :
   at_a_level : (level : Level) → pair_price c (list_at levels pair [] level) p q ≡ row_price (list_at levels pair [] level) (row_in (pairs c) p q)
   at_a_level level = pair_price_is c (list_at levels pair [] level) p q (length-map pair (λ w. at_level level (levels w)) ∙ size)
 
+  -- the price of two positions is that of their row, or 0 minus it by the sign
   pub pair_is : (sign : Sign) → row_in (pairs c) p q ≡ Some (row, sign) → pair_levels levels c pair p q ≡ signed_levels sign (levels w)
   pair_is Plus at =
       let bulk : pair_price c (list_at levels pair [] Bulk) p q ≡ (levels w).bulk = at_a_level Bulk ∙ ap (row_price (list_at levels pair [] Bulk)) at ∙ at_row (λ v. (levels v).bulk) pair row w here in
@@ -73,6 +75,7 @@ module _ {W : Type 0} (levels : W → Levels) (c : Chain) (pair : List W) (p q :
 pub row_at : (c : Chain) (ps : List (ℕ × ℕ)) (i j s row : ℕ) (sign : Sign) → ps ≡ pairs c → s ≡ succ c i → Some (row, sign) ≡ row_in ps s j → row_in (pairs c) (succ c i) j ≡ Some (row, sign)
 row_at c ps i j s row sign ep es e = ap₂ (λ (qs : List (ℕ × ℕ)) (r : ℕ). row_in qs r j) (sym ep) (sym es) ∙ sym e
 
+-- a position whose letter is the inverse of the one after i is the end of a step from i
 pub step_at : (c : Chain) (i j s : ℕ) → i < positions c → j < positions c → s ≡ succ c i → letter c j ≡ inverse_letter (letter c s) → IsStep c i j
 step_at c i j s from to e inverse = record { from = from; to = to; inverse = inverse ∙ ap (λ (r : ℕ). inverse_letter (letter c r)) e }
 
@@ -80,12 +83,14 @@ step_at c i j s from to e inverse = record { from = from; to = to; inverse = inv
 pub step_is : {W : Type 0} (levels : W → Levels) (c : Chain) (pair base : List W) (i j : ℕ) (y z sum : Levels) → y ≡ pair_levels levels c pair (succ c i) j → z ≡ base_levels levels c base j → sum ≡ levels_sum y z → sum ≡ step_levels levels c pair base i j
 step_is levels c pair base i j y z sum ey ez e = e ∙ ap₂ levels_sum ey ez
 
+-- where 0 minus the price of a row is too wide, the steps have no prices
 pub turn_is : {W : Type 0} (levels : W → Levels) (c : Chain) (pair base : List W) (row : ℕ) (w : W) (fault : StepFault) → slice_get pair row ≡ Some w → IsTurn (levels w) row fault → IsStepFault levels c pair base fault
 turn_is levels c pair base row w (Turn k level wide) here is = (w, ap (slice_get pair) is.0 ∙ here, is.1)
 turn_is levels c pair base row w (Step from to level wide) here is = absurd is
 turn_is levels c pair base row w Memory here is = absurd is
 
 -- ---- the table
+-- one cell more
 pub next_cell : {W : Type 0} (levels : W → Levels) (c : Chain) (pair base : List W) (side n : ℕ) (cells : List (Option W)) (o : Option W) → AreCells levels c pair base side n cells → IsCell levels c pair base (n % side) (n / side) o → AreCells levels c pair base side (n + 1) (cells ++ o ∷ [])
 next_cell levels c pair base side n cells o are is =
     record {
@@ -102,6 +107,7 @@ next_cell levels c pair base side n cells o are is =
     }
 
 module _ {W : Type 0} (levels : W → Levels) (c : Chain) (pair base : List W) (t : Square W) (side : t.side ≡ positions c) (are : AreCells levels c pair base t.side (t.side * t.side) t.cells) where
+  -- the cell of i and j has the price of the step where there is one
   pub cell_is : (i j : ℕ) → i < positions c → j < positions c → IsCell levels c pair base i j (cell t j i)
   cell_is i j from to =
       let low : i < t.side = omega (arith, side) in
@@ -117,6 +123,7 @@ module _ {W : Type 0} (levels : W → Levels) (c : Chain) (pair base : List W) (
   off_step : (i j : ℕ) (o : Option W) (w : W) → o ≡ Some w → IsCell levels c pair base i j o → IsStep c i j
   off_step i j o w e is = (subst (IsCell levels c pair base i j) e is).0
 
+  -- the table has the chain's size, and an entry exactly where there is a step
   pub for_chain : AreForChain c t
   for_chain =
       record {
@@ -129,5 +136,6 @@ module _ {W : Type 0} (levels : W → Levels) (c : Chain) (pair base : List W) (
   price_of i j None step e is = absurd (is step)
   price_of i j (Some w) step e is = ap (level_of levels) e ∙ is.1
 
+  -- the price of a step in the table is its exact price
   pub prices_are : (i j : ℕ) → IsStep c i j → price_in levels t i j ≡ step_levels levels c pair base i j
   prices_are i j step = price_of i j (cell t j i) step refl (cell_is i j step.from step.to)

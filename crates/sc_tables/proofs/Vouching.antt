@@ -12,11 +12,13 @@ use Rattle.sc_tables.proofs.Order.{through_start, past_start, at_most_zero_sum}
 abbrev pub back_total : (ℕ → ℕ → Levels) → ℕ → ℕ → List ℕ → Levels
 back_total price start i js = record { bulk = total_back (bulk_of price) start i js; fine = total_back (fine_of price) start i js }
 
+-- a walk that leads back begins at a position
 pub start_inside : (c : Chain) (start i : ℕ) (js : List ℕ) → WalksBack c start i js → i < positions c
 start_inside c start i [] step = step.from
 start_inside c start i (j ∷ js) walk = walk.0.from
 
 module _ (c : Chain) (price : ℕ → ℕ → Levels) (threshold : Levels) (entry : ℕ → ℕ → Option Levels) (above : IsBelow zero_levels threshold) (vouch : VouchFor c price threshold entry) where
+  -- an entry and the way back to the row's start cost at least the threshold
   pub along : (s i : ℕ) (js : List ℕ) (a : Levels) → s < positions c → entry s i ≡ Some a → WalksBack c s i js → IsAtMost threshold (levels_sum a (back_total price s i js))
   along s i [] a inside present step = vouch.returns s i a inside step present
   along s i (j ∷ js) a inside present walk =
@@ -32,6 +34,7 @@ module _ (c : Chain) (price : ℕ → ℕ → Levels) (threshold : Levels) (entr
             past_start threshold a far.0 (price i j) (back_total price s j js) far.2 (along s j js far.0 inside far.1 walk.1)
       ]
 
+  -- where tables vouch for a threshold, every closed walk reaches it
   pub bounds_closed : AllAtLeast c price threshold
   bounds_closed [] walk = absurd walk
   bounds_closed (i ∷ js) walk =

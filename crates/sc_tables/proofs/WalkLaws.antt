@@ -9,6 +9,7 @@ use Rattle.sc_tables.specs.Walks.{WalksAlong, end_of}
 use Rattle.sc_tables.specs.Totals.{total_along}
 
 -- ---- open walks
+-- a walk along two lists is a walk along the first and, from its end on, one along the second
 pub walks-append : (c : Chain) (i : ℕ) (js ks : List ℕ) → WalksAlong c i js → WalksAlong c (end_of i js) ks → WalksAlong c i (js ++ ks)
 walks-append c i [] ks front rest = rest
 walks-append c i (j ∷ js) ks front rest = (front.0, walks-append c j js ks front.1 rest)
@@ -31,11 +32,13 @@ regroup a b x y e = omega (arith, ints)
 from_zero : (x : ℤ) → x ≡ pos 0 +ℤ x
 from_zero x = omega (arith, ints)
 
+-- the totals of two walks, one behind the other, add up
 pub total_along-append : (f : ℕ → ℕ → ℤ) (i : ℕ) (js ks : List ℕ) → total_along f i (js ++ ks) ≡ total_along f i js +ℤ total_along f (end_of i js) ks
 total_along-append f i [] ks = from_zero _
 total_along-append f i (j ∷ js) ks = regroup _ _ _ (f i j) (total_along-append f j js ks)
 
 -- ---- closed walks from open ones
+-- a walk out with a step to the start leads back to it, and the other way round
 pub walks_back : (c : Chain) (start i : ℕ) (js : List ℕ) → WalksAlong c i js → IsStep c (end_of i js) start → WalksBack c start i js
 walks_back c start i [] walk step = step
 walks_back c start i (j ∷ js) walk step = (walk.0, walks_back c start j js walk.1 step)
@@ -48,11 +51,13 @@ pub last_step : (c : Chain) (start i : ℕ) (js : List ℕ) → WalksBack c star
 last_step c start i [] walk = walk
 last_step c start i (j ∷ js) walk = last_step c start j js walk.1
 
+-- a walk that leads back costs the walk out and the last step
 pub total_back-is : (f : ℕ → ℕ → ℤ) (start i : ℕ) (js : List ℕ) → total_back f start i js ≡ total_along f i js +ℤ f (end_of i js) start
 total_back-is f start i [] = from_zero _
 total_back-is f start i (j ∷ js) = regroup _ _ _ (f i j) (total_back-is f start j js)
 
 -- ---- a closed walk that passes a place: the part up to there, and the part from there on
+-- the part before the place x leads back to x, and the part from it on to the start
 pub part_before : (c : Chain) (start j : ℕ) (b : List ℕ) (x : ℕ) (d : List ℕ) → WalksBack c start j (b ++ x ∷ d) → WalksBack c x j b
 part_before c start j [] x d walk = walk.0
 part_before c start j (k ∷ b) x d walk = (walk.0, part_before c start k b x d walk.1)
@@ -61,10 +66,12 @@ pub part_after : (c : Chain) (start j : ℕ) (b : List ℕ) (x : ℕ) (d : List 
 part_after c start j [] x d walk = walk.1
 part_after c start j (k ∷ b) x d walk = part_after c start k b x d walk.1
 
+-- two such parts make a walk that leads back to the start
 pub join : (c : Chain) (start j : ℕ) (b : List ℕ) (x : ℕ) (d : List ℕ) → WalksBack c x j b → WalksBack c start x d → WalksBack c start j (b ++ x ∷ d)
 join c start j [] x d front rest = (front, rest)
 join c start j (k ∷ b) x d front rest = (front.0, join c start k b x d front.1 rest)
 
+-- the totals of the two parts add up
 pub total-through : (f : ℕ → ℕ → ℤ) (start j : ℕ) (b : List ℕ) (x : ℕ) (d : List ℕ) → total_back f start j (b ++ x ∷ d) ≡ total_back f x j b +ℤ total_back f start x d
 total-through f start j [] x d = refl
 total-through f start j (k ∷ b) x d = regroup _ _ _ (f j k) (total-through f start k b x d)
@@ -78,6 +85,7 @@ module _ (c : Chain) (b : List ℕ) (x : ℕ) (d : List ℕ) where
   rest_back start i a walk =
       join c start i a x d (part_before c start i a x (b ++ x ∷ d) walk) (part_after c start x b x d (part_after c start i a x (b ++ x ∷ d) walk))
 
+  -- the part between the two places is a closed walk, and so is the walk without it
   pub cut_between : (a : List ℕ) → IsClosedWalk c (a ++ x ∷ (b ++ x ∷ d)) → IsClosedWalk c (x ∷ b)
   cut_between [] walk = part_before c x x b x d walk
   cut_between (i ∷ a) walk = between_back i i a walk
@@ -89,6 +97,7 @@ module _ (c : Chain) (b : List ℕ) (x : ℕ) (d : List ℕ) where
 middle_first : (p q r w v : ℤ) → w ≡ p +ℤ v → v ≡ q +ℤ r → w ≡ q +ℤ (p +ℤ r)
 middle_first p q r w v e h = omega (arith, ints)
 
+-- the totals of the two closed walks add up
 pub total-cut : (f : ℕ → ℕ → ℤ) (a b : List ℕ) (x : ℕ) (d : List ℕ) → walk_total f (a ++ x ∷ (b ++ x ∷ d)) ≡ walk_total f (x ∷ b) +ℤ walk_total f (a ++ x ∷ d)
 total-cut f [] b x d = total-through f x x b x d
 total-cut f (i ∷ a) b x d =
@@ -103,11 +112,13 @@ turned c (i ∷ a) x b walk = join c x x b i a (part_after c i i a x b walk) (pa
 swapped : (p q w v : ℤ) → w ≡ p +ℤ q → v ≡ q +ℤ p → v ≡ w
 swapped p q w v e h = omega (arith, ints)
 
+-- it has the same total
 pub total-turned : (f : ℕ → ℕ → ℤ) (a : List ℕ) (x : ℕ) (b : List ℕ) → walk_total f (x ∷ (b ++ a)) ≡ walk_total f (a ++ x ∷ b)
 total-turned f [] x b = ap (λ (ys : List ℕ). total_back f x x ys) (append-nil b)
 total-turned f (i ∷ a) x b = swapped (total_back f x i a) (total_back f i x b) _ _ (total-through f i i a x b) (total-through f x x b i a)
 
 -- ---- an open walk that passes a place twice
+-- the part between the two places is a closed walk, and what is left is a walk
 pub open_between : (c : Chain) (i : ℕ) (a : List ℕ) (x : ℕ) (b d : List ℕ) → WalksAlong c i (a ++ x ∷ (b ++ x ∷ d)) → WalksBack c x x b
 open_between c i [] x b d walk = closed x b walk.1
   where
@@ -128,6 +139,7 @@ along-through : (f : ℕ → ℕ → ℤ) (j : ℕ) (b : List ℕ) (x : ℕ) (d 
 along-through f j [] x d = refl
 along-through f j (k ∷ b) x d = regroup _ _ _ (f j k) (along-through f k b x d)
 
+-- the totals of both add up
 pub total_along-cut : (f : ℕ → ℕ → ℤ) (i : ℕ) (a : List ℕ) (x : ℕ) (b d : List ℕ) → total_along f i (a ++ x ∷ (b ++ x ∷ d)) ≡ walk_total f (x ∷ b) +ℤ total_along f i (a ++ x ∷ d)
 total_along-cut f i a x b d =
     middle_first (total_back f x i a) _ (total_along f x d) _ _ (along-through f i a x (b ++ x ∷ d)) (along-through f x b x d)
