@@ -32,14 +32,6 @@ pub record IsOfParts (first second : Chain) (corners : List CornerParts) (edges 
   pub corners_are : f.corners.items ≡ corners
   pub edges_are : f.edges.items ≡ edges
 
-plane_is : (first second : Chain) (corners : List CornerParts) (edges : List EdgeParts) (f : FanParts) → IsOfParts first second corners edges f → plane_fan f ≡ record { first = first; second = second; corners = map corner_said corners; edges = map edge_said edges }
-plane_is first second corners edges f is = λ i. record {
-  first = is.first_is i;
-  second = is.second_is i;
-  corners = map corner_said (is.corners_are i);
-  edges = map edge_said (is.edges_are i);
-}
-
 -- two corners of one direction and one value are one
 one_corner : (c d : CornerParts) → c.direction ≡ d.direction → quotient_of c.value ≡ quotient_of d.value → corner_said c ≡ corner_said d
 one_corner c d p e = λ i. record { direction = p i; value = e i }

@@ -53,17 +53,6 @@ end_is_light q first second d is_first is_second is_end = elim is_end [ inl e �
     light_last Lower = omega (arith, is_first.light)
     light_last Upper = omega (arith, is_second.light)
 
-pub end_is_small : (q : Quadrant) (d : Direction) → (d ≡ first_end q) ⊎ (d ≡ last_end q) → IsSmall d
-end_is_small q d is_end = elim is_end [ inl e ↦ subst IsSmall (sym e) (small_first q) | inr e ↦ subst IsSmall (sym e) (small_last q) ]
-  where
-    small_first : (q : Quadrant) → IsSmall (first_end q)
-    small_first Lower = record { first = omega arith; second = omega arith }
-    small_first Upper = record { first = omega arith; second = omega arith }
-
-    small_last : (q : Quadrant) → IsSmall (last_end q)
-    small_last Lower = record { first = omega arith; second = omega arith }
-    small_last Upper = record { first = omega arith; second = omega arith }
-
 -- before any search the ends of the quadrant are due
 pub unsolved_end : (q : Quadrant) (first second : Chain) (budget : ℕ) (shown : List ReachedParts) (d : Direction) (fault : SolveFault) → shown ≡ [] → (d ≡ first_end q) ⊎ (d ≡ last_end q) → IsLight first second d
     → IsStopped (chain_of q first second d) budget fault → is_memory fault ≡ false → IsUnsolved q first second budget (map reached_of shown) d fault

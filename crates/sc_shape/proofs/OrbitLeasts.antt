@@ -88,9 +88,6 @@ boundary_from g s r h = record {
 stays : (f : ℕ → ℕ) (n : ℕ) (values : List ℕ) → AreValues f n values → StaysBelow n f → StaysBelow n (entry values)
 stays f n values v h s l = rw (v.each s l) (h s l)
 
-pub stays_entries : (f : ℕ → ℕ) (n : ℕ) (values : List ℕ) → AreValues f n values → StaysBelow n f → StaysBelow (length values) (entry values)
-stays_entries f n values v h = rw v.as_many (stays f n values v h)
-
 -- classes that were found by tables of the steps f and g
 pub classes_of_maps : (f g : ℕ → ℕ) (n : ℕ) (first second least : List ℕ) → StaysBelow n f → StaysBelow n g → AreValues f n first → AreValues g n second → AreLeast (entry first) (entry second) (length first) least → (length least ≡ n) × ((s : ℕ) → s < n → IsLeastLeading f g n s (entry least s))
 classes_of_maps f g n first second least hf hg vf vg a =

@@ -28,9 +28,6 @@ pub record AreListed (components sizes vertices : List ℕ) (s : ℕ) (found : L
   pub listed : found ≡ map (bare sizes vertices) (list_below (is_own components) s)
   pub placed : ArePlaces components s places
 
-pub listed_begin : (components sizes vertices places : List ℕ) → AreListed components sizes vertices 0 [] places
-listed_begin components sizes vertices places = record { listed = refl; placed = λ r l e. absurd (omega (arith, l)) }
-
 pub listed_length : (components sizes vertices : List ℕ) (s : ℕ) (found : List Component) (places : List ℕ) → AreListed components sizes vertices s found places → length found ≡ count_below (is_own components) s
 listed_length components sizes vertices s found places h =
     ap (λ (xs : List Component). length xs) h.listed ∙ length_of_map (bare sizes vertices) (list_below (is_own components) s) ∙ length-list_below (is_own components) s

@@ -71,18 +71,6 @@ pub record Spreads (f g : ℕ → ℕ) (n : ℕ) (before : List Bool) (least_bef
   pub kept_least : (s : ℕ) → IsMarked before s → entry least s ≡ entry least_before s
   pub stepped : (k : ℕ) → k < done → IsMarked marks (f (get_or reached k 0)) × IsMarked marks (g (get_or reached k 0))
 
-pub spreads_begin : (f g : ℕ → ℕ) (n : ℕ) (marks : List Bool) (least : List ℕ) (start : ℕ) → length marks ≡ n → length least ≡ n → Spreads f g n marks least start marks least [] 0
-spreads_begin f g n marks least start e h = record {
-  as_many_marks = e;
-  as_many = h;
-  within = omega arith;
-  each = λ k l. absurd (omega (arith, l));
-  found = λ s m. inl m;
-  kept = λ s m. m;
-  kept_least = λ s m. refl;
-  stepped = λ k l. absurd (omega (arith, l));
-}
-
 -- a number that is reached for the first time
 spreads_new : (f g : ℕ → ℕ) (n : ℕ) (before : List Bool) (least_before : List ℕ) (start : ℕ) (marks : List Bool) (least : List ℕ) (reached : List ℕ) (done u : ℕ) → Spreads f g n before least_before start marks least reached done → u < n → LeadsTo f g start u → get_or marks u false ≡ false → Spreads f g n before least_before start (set marks u true) (set least u start) (reached ++ u ∷ []) done
 spreads_new f g n before least_before start marks least reached done u w l led fresh =
@@ -207,26 +195,6 @@ spreads_end f g n before least_before start marks least reached done hf hg b w b
                   ];
             })
       ];
-}
-
--- a number that has its mark already
-pub classes_stay : (f g : ℕ → ℕ) (n : ℕ) (marks : List Bool) (least : List ℕ) (start : ℕ) → AreClassesBelow f g n marks least start → IsMarked marks start → AreClassesBelow f g n marks least (start + 1)
-classes_stay f g n marks least start b m = record {
-  as_many_marks = b.as_many_marks;
-  as_many = b.as_many;
-  closed = b.closed;
-  below = λ s h. elim (cases_lt s start) [ inl l ↦ b.below s l | inr l ↦ let e : s ≡ start = omega (arith, h, l) in rw e m ];
-  right = b.right;
-}
-
--- no marks at all
-pub classes_begin : (f g : ℕ → ℕ) (n : ℕ) (marks : List Bool) (least : List ℕ) → length marks ≡ n → length least ≡ n → ((s : ℕ) → get_or marks s false ≡ false) → AreClassesBelow f g n marks least 0
-classes_begin f g n marks least e h u = record {
-  as_many_marks = e;
-  as_many = h;
-  closed = λ s l m. absurd (false≢true (sym (u s) ∙ m));
-  below = λ s l. absurd (omega (arith, l));
-  right = λ s l m. absurd (false≢true (sym (u s) ∙ m));
 }
 
 -- all marked

@@ -1,33 +1,19 @@
 -- Orders of entries, of lists, and of rows by their lists.
 use Rattle.std.specs.Prelude.{◌≡◌, ℕ, zero, suc, ◌<◌, List, length, Option, None, Some, ℤ, pos, ◌*ℤ◌, ◌≤ℤ◌, ◌<ℤ◌}
-use Rattle.std.specs.Ordering.{int_cmp}
 use Rattle.std.specs.declared.cmp.Ordering.{Ordering}
 use Rattle.std.specs.declared.cmp.Ordering.TheVariants.{Less, Equal, Greater}
 use Rattle.std.proofs.Common.{arith, refl, sym, ap, ◌∙◌}
-use Rattle.std.proofs.Math.Path.{subst₂}
-use Rattle.std.proofs.lemmas.Cmp.{int_ranked}
 use Rattle.std.proofs.lemmas.Int.{ints}
-use Rattle.sc_algebra.proofs.Ints.{mul_comm, mul-zero}
 use Rattle.sc_basis.specs.Products.{dot}
-use Rattle.sc_basis.specs.Lines.{LexLess, line}
+use Rattle.sc_basis.specs.Lines.{line}
 use Rattle.sc_basis.proofs.LexOrder.{lex_map}
 use Rattle.sc_basis.proofs.RowOrder.{least_first, none_more, least_kept, least_taken}
 use Rattle.sc_rows.specs.Lines.{Line, row_of}
-use Rattle.sc_simplex.specs.Orders.{IsOrder, IsLexOrder, headed}
+use Rattle.sc_simplex.specs.Orders.{IsLexOrder, headed}
 use Rattle.sc_simplex.specs.Leaving.{NoneTie, IsBestRow, IsBest}
 use Rattle.sc_simplex.specs.declared.leaving.Best.{Best}
 
 -- ---- entries and lists
-pub order_turned : (o : Ordering) (x a y b : ℤ) → o ≡ int_cmp (x *ℤ b) (y *ℤ a) → IsOrder o (b *ℤ x) (a *ℤ y)
-order_turned o x a y b e = subst₂ (λ (u v : ℤ). IsOrder o u v) (mul_comm x b) (mul_comm y a) (int_ranked (x *ℤ b) (y *ℤ a) o e)
-
-pub zeros_are_equal : (x a y b : ℤ) → x ≡ pos 0 → y ≡ pos 0 → b *ℤ x ≡ a *ℤ y
-zeros_are_equal x a y b e f = ap (λ (z : ℤ). b *ℤ z) e ∙ mul-zero b ∙ sym (ap (λ (z : ℤ). a *ℤ z) f ∙ mul-zero a)
-
--- the first entries differ
-pub first_less : (n : ℕ) (f g : ℕ → ℤ) → f 0 <ℤ g 0 → LexLess (suc n) f g
-first_less n f g less = (0, omega arith, (λ j l. absurd (omega arith)), less)
-
 -- the first entries are equal
 pub shifted : (o : Ordering) (n : ℕ) (f g : ℕ → ℤ) → f 0 ≡ g 0 → IsLexOrder o n (λ k. f (suc k)) (λ k. g (suc k)) → IsLexOrder o (suc n) f g
 shifted Less n f g e (k, inside, same, less) = (suc k, omega arith, before k e same, less)

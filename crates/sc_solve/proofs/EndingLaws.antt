@@ -34,7 +34,7 @@ use Rattle.sc_simplex.specs.declared.solving.SimplexFault.{SimplexFault}
 use Rattle.sc_simplex.specs.declared.solving.SimplexFault.TheVariants as simplex_faults
 use Rattle.sc_simplex.specs.Columns.{key_of}
 use Rattle.sc_simplex.specs.NamedJournals.{basis_of, first_seen, pivot_key}
-use Rattle.sc_simplex.specs.Oracles.{NoneImproves, ImprovesAt}
+use Rattle.sc_simplex.specs.Oracles.{ImprovesAt}
 use Rattle.sc_simplex.specs.Optima.{IsOptimum, IsShownAfter, IsSumOfColumns, AreValues as AreBasisValues, IsStopped as IsSimplexStopped}
 use Rattle.sc_simplex.specs.WideOperations.{IsWideOperation}
 use Rattle.sc_simplex.proofs.FirstSeen.{length_first_seen}
@@ -220,9 +220,6 @@ stop_is c budget simplex_faults.Memory (Sides pivots part so_far next) is of = a
 stop_is c budget simplex_faults.Memory Memory is of = tt
 
 -- ---- the parts of an ending
-pub end_improves : (c : Chain) (journal : List Pivot) (p : PriceRows) → IsOptimalEnd c journal p → NoneImproves (IsPolygonColumn c) (rows c) p
-end_improves c journal p is key entries known = subst (λ (es : Entries). ¬ ImprovesAt (rows c) p es) (sym known.entries_are) (is.optimal key known.polygon)
-
 pub end_rows : (c : Chain) (budget : ℕ) (journal : List Pivot) → IsJournalOf c budget journal → AllByRecursion (λ p. p.row < rows c) journal
 end_rows c budget journal is = only_rows journal (journal_in_range c budget journal is)
   where

@@ -28,9 +28,6 @@ at_end (y ∷ ys) x d (suc k) e = at_end ys x d k (omega arith)
 one_longer : {A : Type 0} (xs : List A) (x : A) (n : ℕ) → length xs ≡ n → length (xs ++ x ∷ []) ≡ n + 1
 one_longer xs x n e = length-append xs (x ∷ []) ∙ ap (λ (k : ℕ). k + 1) e
 
-pub no_entries : (t : Square Plain) (s : ℕ) → IsRowOf t s 0 []
-no_entries t s = record { len = refl; at = λ j inside. absurd (omega arith) }
-
 pub entry_more : (t : Square Plain) (s n : ℕ) (row : List (Option ℤ)) (e : Option ℤ) → IsRowOf t s n row → e ≡ option_map number (cell t s n) → IsRowOf t s (n + 1) (row ++ e ∷ [])
 entry_more t s n row e before here =
     record {
@@ -47,21 +44,6 @@ pub row_small : (t : Square Plain) (s n : ℕ) (row : List (Option ℤ)) → IsR
 row_small t s n row is small =
     by_number IsEntryInRange None row
     (λ k inside. let within : k < n = omega (arith, is.len) in subst IsEntryInRange (sym (is.at k within)) (small k within))
-
-pub no_rows : (t : Square Plain) → AreRowsOf t 0 []
-no_rows t = record { len = refl; at = λ s inside. absurd (omega arith) }
-
-pub row_more : (t : Square Plain) (n : ℕ) (tables : Tables) (row : List (Option ℤ)) → AreRowsOf t n tables → IsRowOf t n t.side row → AreRowsOf t (n + 1) (tables ++ row ∷ [])
-row_more t n tables row before here =
-    record {
-      len = one_longer tables row n before.len;
-      at = λ s inside. elim (cases_lt s n) [
-        | inl less ↦ subst (IsRowOf t s t.side) (sym (before_end tables row [] s (omega (arith, before.len)))) (before.at s less)
-        | inr past ↦
-            let same : n ≡ s = omega arith in
-            subst (IsRowOf t s t.side) (sym (at_end tables row [] s (omega (arith, before.len)))) (subst (λ (k : ℕ). IsRowOf t k t.side row) same here)
-      ];
-    }
 
 pub rows_fit : (t : Square Plain) (n : ℕ) (tables : Tables) → t.side ≡ n → AreRowsOf t n tables → AreTablesOf n tables
 rows_fit t n tables side rows =

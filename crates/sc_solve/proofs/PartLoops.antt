@@ -1,5 +1,5 @@
 -- Lists that are made row by row, and part by part.
-use Rattle.std.proofs.Common.{◌≡◌, ℕ, zero, suc, ◌+◌, ◌<◌, List, [], ◌∷◌, ◌++◌, length, get_or, set, take, replicate, Option, Some, None, ℤ, ◌≤◌, arith, refl, sym, ap, ap₂, subst, ◌∙◌}
+use Rattle.std.proofs.Common.{◌≡◌, ℕ, zero, suc, ◌+◌, ◌<◌, List, [], ◌∷◌, ◌++◌, length, get_or, set, take, Option, Some, None, ◌≤◌, arith, refl, sym, ap, ap₂, ◌∙◌}
 use Rattle.std.proofs.lemmas.List.{take_more}
 use Rattle.std.proofs.lemmas.Option.{slice_get_within}
 use Rattle.sc_theory.specs.Chains.{Chain}
@@ -8,16 +8,10 @@ use Rattle.sc_fraction.specs.declared.frac.Frac.{Frac}
 use Rattle.sc_assembly.specs.declared.parts.Part.{Part}
 use Rattle.sc_assembly.specs.declared.counting.PartsFault.{PartsFault}
 use Rattle.sc_assembly.specs.declared.counting.PartsFault.TheVariants as parts_faults
-use Rattle.sc_assembly.specs.Multiples.{AreCounts, HasManySides, IsFaultOf}
+use Rattle.sc_assembly.specs.Multiples.{AreCounts, IsFaultOf}
 use Rattle.sc_solve.specs.Solutions.{exchanged}
-use Rattle.sc_solve.specs.Assembling.{part_of, valued, IsWithin, IsTold, IsPartStop}
-use Rattle.sc_solve.specs.declared.assembling.PartStop.{PartStop}
-use Rattle.sc_solve.specs.declared.assembling.PartStop.TheVariants.{Sides, Memory}
+use Rattle.sc_solve.specs.Assembling.{part_of, valued, IsWithin}
 use Rattle.sc_solve.proofs.PolygonJournals.{exchanged-push}
-
-pub replicate-push : {A : Type 0} (n : ℕ) (x : A) → replicate n x ++ x ∷ [] ≡ replicate (suc n) x
-replicate-push zero x = refl
-replicate-push (suc n) x = ap (λ (xs : List _). x ∷ xs) (replicate-push n x)
 
 pub valued_suc : (items : List (Option (List ℕ))) (values : List Frac) (k : ℕ) (d : Frac) → k < length items → k < length values
     → valued (take (suc k) items) (take (suc k) values) ≡ valued (take k items) (take k values) ++ part_of (get_or items k None) (get_or values k d)
@@ -62,14 +56,3 @@ length-valued (Some walk ∷ items) (v ∷ values) = omega (arith, length-valued
 pub fault_within : (c : Chain) (parts : List Part) (fault : PartsFault) → IsFaultOf c parts fault → IsWithin (length parts) fault
 fault_within c parts (parts_faults.Sides part so_far next) is = slice_get_within parts part is.here is.here_is
 fault_within c parts parts_faults.Memory is = tt
-
-pub stop_told : (c : Chain) (parts : List Part) (fault : PartsFault) (stop : PartStop) → IsFaultOf c parts fault → IsTold parts fault stop → IsPartStop c parts stop
-stop_told c parts (parts_faults.Sides place so_far next) (Sides part so_far' next') is told =
-    record {
-      place = place;
-      part_is = told.0;
-      many = subst (λ (n : ℕ). HasManySides c parts place n next') (sym told.1) (subst (λ (z : ℤ). HasManySides c parts place so_far z) (sym told.2) is);
-    }
-stop_told c parts (parts_faults.Sides place so_far next) Memory is told = absurd told
-stop_told c parts parts_faults.Memory (Sides part so_far next) is told = absurd told
-stop_told c parts parts_faults.Memory Memory is told = tt

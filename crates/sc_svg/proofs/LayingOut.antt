@@ -19,10 +19,6 @@ append_assoc : (xs ys zs : List ℕ) → (xs ++ ys) ++ zs ≡ xs ++ (ys ++ zs)
 append_assoc [] ys zs = refl
 append_assoc (x ∷ xs) ys zs = ap (λ (ws : List ℕ). x ∷ ws) (append_assoc xs ys zs)
 
-append_nil : (xs : List ℕ) → xs ++ [] ≡ xs
-append_nil [] = refl
-append_nil (x ∷ xs) = ap (λ (ys : List ℕ). x ∷ ys) (append_nil xs)
-
 -- ---- one vertex
 -- `steps` sides of the orbit are laid, and `side` is the next one
 pub record LaysTo (t : ℕ → ℕ) (n start : ℕ) (order xs : List ℕ) (side : ℕ) (order' xs' : List ℕ) : Type 0 where
@@ -34,18 +30,6 @@ pub record LaysTo (t : ℕ → ℕ) (n start : ℕ) (order xs : List ℕ) (side 
   pub room : count_by (λ x. x == 0) xs' + length order' ≡ n
   pub placed : (j : ℕ) → j < steps → entry xs' (iterate t j start) ≡ x_in_orbit t n start j
   pub others : (u : ℕ) → ((j : ℕ) → j < steps → iterate t j start ≢ u) → entry xs' u ≡ entry xs u
-
-pub lays_begin : (t : ℕ → ℕ) (n start : ℕ) (order xs : List ℕ) → IsLaidTo t n start order xs → LaysTo t n start order xs start order xs
-lays_begin t n start order xs h = record {
-  steps = 0;
-  side_is = refl;
-  apart = refl;
-  order_is = sym (append_nil order);
-  as_many = h.as_many;
-  room = h.room;
-  placed = λ j l. absurd (omega (arith, l));
-  others = λ u differ. refl;
-}
 
 module _ (t : ℕ → ℕ) (n : ℕ) (p : IsPermutation t n) (start : ℕ) (ls : start < n) (order xs : List ℕ) (h : IsLaidTo t n start order xs) where
   -- the side that is due has no x
@@ -140,17 +124,6 @@ module _ (t : ℕ → ℕ) (n : ℕ) (p : IsPermutation t n) (start : ℕ) (ls :
       }
 
 -- ---- all vertices
-pub laid_begin : (t : ℕ → ℕ) (n : ℕ) (xs lasts : List ℕ) → length xs ≡ n → length lasts ≡ n → count_by (λ x. x == 0) xs ≡ n → ((u : ℕ) → entry xs u ≡ 0) → AreLaidBelow t n 0 [] xs lasts
-laid_begin t n xs lasts e f room z = record {
-  as_many = e;
-  as_many_lasts = f;
-  order_is = refl;
-  room = omega (arith, room);
-  placed = λ q i b. absurd (omega (arith, b));
-  free = λ u l differ. z u;
-  lasts_are = λ q b. absurd (omega (arith, b));
-}
-
 pub laid_to : (t : ℕ → ℕ) (n : ℕ) → IsPermutation t n → (start : ℕ) (order xs lasts : List ℕ) → start < n → is_least_for t n start ≡ true → AreLaidBelow t n start order xs lasts → IsLaidTo t n start order xs
 laid_to t n p start order xs lasts l least h = record {
   as_many = h.as_many;
