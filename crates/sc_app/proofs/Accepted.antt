@@ -82,6 +82,7 @@ own_of_generate seed letters text Wide r = tt
 own_of_generate seed letters text Sides r = tt
 own_of_generate seed letters text _ r = absurd r
 
+-- an answer to an input that the command accepts has one of the command's own statuses
 pub own_status : (c : Command) (input text : List ℕ) (s : Status) → IsAccepted c input → AnswersTo c input s text → IsOwnStatus c input s
 own_status Surface input text s a (inl long) = absurd (omega (arith, a.0, long.0))
 own_status Surface input text s a (inr r) = own_of_sides IsReport input text s a.1 r.1

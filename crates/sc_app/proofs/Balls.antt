@@ -105,6 +105,7 @@ fan_told n first second f text first_balanced second_balanced first_range second
 same_quadrant : (first second : Chain) (p q : Quadrant) (rs : List Reached) → p ≡ quadrant_from (reached rs 0).direction.t → IsSearch q first second rs → p ≡ q
 same_quadrant first second p q rs found search = found ∙ quadrant_found q first second rs search
 
+-- a crossing that is refused is shown with its search, whose quadrant is told by its first direction
 pub shows_crossing : (first second : Chain) (p : Quadrant) (search printed : List ReachedParts) (from to : Direction) (place : CrossPlace) (x y : Frac) (text : List ℕ)
     → p ≡ quadrant_from (reached (map reached_of search) 0).direction.t → printed ≡ search
     → (q : Quadrant) × IsUncrossed q first second (map reached_of search) from to (next_faults.Cross place x y)
@@ -113,6 +114,7 @@ shows_crossing first second p search printed from to place x y text found same e
     let in_q : p ≡ evidence.0 = same_quadrant first second p evidence.0 (map reached_of search) found evidence.1.opened.search in
     (evidence.0, (evidence.1, refl, text_is ∙ ap₂ (λ (q : Quadrant) (rs : List ReachedParts). cross_text (shown q first second rs) from to place x y) in_q same))
 
+-- so is a next direction that is too long
 pub shows_length : (first second : Chain) (p : Quadrant) (search printed : List ReachedParts) (from to : Direction) (a b : ℤ) (text : List ℕ)
     → p ≡ quadrant_from (reached (map reached_of search) 0).direction.t → printed ≡ search
     → (q : Quadrant) × IsUncrossed q first second (map reached_of search) from to (next_faults.Length a b)
@@ -131,6 +133,7 @@ stop_status n first second (faults.Cross entries from to place x y) s text h = i
 stop_status n first second (faults.Length entries from to a b) s text h = inr (inr h.1.1)
 stop_status n first second faults.Memory s text h = absurd h
 
+-- what stops a search, shown with its evidence, is an answer for two balanced chains
 pub stopped_ball : (n : ℕ) (first second : Chain) (fault : BallFault) (s : Status) (text : List ℕ) → IsBalanced first → IsBalanced second → Shows first second n fault s text → IsBallOf n first second s text
 stopped_ball n first second fault s text first_balanced second_balanced h = elim (stop_status n first second fault s text h) [
   | inl e ↦ subst (λ (x : Status). IsBallOf n first second x text) (sym e)

@@ -122,6 +122,7 @@ module _ (words : List (List ℕ)) (left left' : Option (List ℕ)) (faults faul
   read_as : (t : Status) → s ≡ t → (h : IsAsked words left left' faults faults' R W old new s) → MayRead (reads h.command) (kind_of t) left left' faults faults'
   read_as t e h = subst (λ (x : Status). MayRead (reads h.command) (kind_of x) left left' faults faults') e h.read
 
+  -- what each status tells of the words, of what the source still has, and of what the streams took
   pub usage : (s ≡ Usage) ↔ HasNoForm words
   usage = (
     λ e. elim m [ inl h ↦ h.none | inr h ↦ absurd (ends_as Usage e h) ],
@@ -173,6 +174,7 @@ module _ (words : List (List ℕ)) (left left' : Option (List ℕ)) (faults faul
     | inr h ↦ quiet_by (kind_of s) h.command (given (reads h.command) left) R W old new s q h.ends
   ]
 
+  -- by a status that the input decides, `out` took the text of an answer with that status
   pub answered : IsDecided s → IfSome (input_for words left) (λ input. (text : List ℕ) × Answers words input s text × Took old new text)
   answered d = elim m [
     | inl h ↦ absurd (subst IsDecided h.usage d)
@@ -182,6 +184,7 @@ module _ (words : List (List ℕ)) (left left' : Option (List ℕ)) (faults faul
         (decided_by (kind_of s) h.command (given (reads h.command) left) R W old new s d h.ends))
   ]
 
+  -- where a write failed, `out` took a part of the text of an answer
   pub broken : s ≡ WriteFault → IfSome (input_for words left) (λ input. (status : Status) × (text : List ℕ) × Answers words input status text × TookPart old new text)
   broken e = elim m [
     | inl h ↦ let other : Usage ≡ WriteFault = sym h.usage ∙ e in absurd (cc)
@@ -205,6 +208,7 @@ module _ (words : List (List ℕ)) (left left' : Option (List ℕ)) (faults faul
     | inr e ↦ if_all (given (reads h.command) left) (λ input one status text a. inr e)
   ]
 
+  -- where words and input have one right answer, it came, unless its want is excused
   pub complete : IfSome (input_for words left) Comes
   complete = elim m [
     | inl h ↦ if_all (input_for words left) (λ input one status text a. absurd (no_command words a.0 a.1 h.none))
@@ -225,6 +229,7 @@ module _ (words : List (List ℕ)) (left left' : Option (List ℕ)) (faults faul
             | inr none ↦ inr (memory_alone s none)
           ]
 
+  -- where the command accepts its input and no count rose, an answer of its own came, or there was no memory
   pub completed : (c : Command) → IsForm c words → IfSome (given (reads c) left) (Completes c)
   completed c form = elim m [
     | inl h ↦ absurd (no_command words c form h.none)

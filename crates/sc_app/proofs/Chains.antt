@@ -16,6 +16,7 @@ some_or_none (Some x) some none = false≢true (sym (ap is_some none))
 no_case : (input : List ℕ) (n : ℕ) → IsSome (line_case (line_at input n)) → line_case (line_at input n) ≡ None → ⊥
 no_case input n = some_or_none (line_case (line_at input n))
 
+-- a text has one first malformed line, of one kind
 pub one_malformed : (input : List ℕ) (l m : ℕ) (j k : Kind) → IsFirstMalformed input l j → IsFirstMalformed input m k → Malformed l j ≡ Malformed m k
 one_malformed input l m j k a b =
     elim (cases_lt l m) [
@@ -28,9 +29,11 @@ one_malformed input l m j k a b =
       ]
     ]
 
+-- a chain text has no first malformed line
 pub good_or_malformed : (input : List ℕ) (lines : List RawLine) (n : ℕ) (kind : Kind) → IsChainText input lines → IsFirstMalformed input n kind → ⊥
 good_or_malformed input lines n kind a b = no_case input n (a.cases n b.counted b.in_text) b.no_case
 
+-- a chain text is one of one list of lines
 pub same_lines : (input : List ℕ) (lines lines' : List RawLine) → IsChainText input lines → IsChainText input lines' → lines ≡ lines'
 same_lines input lines lines' a b = a.entries ∙ sym b.entries
 
@@ -44,11 +47,13 @@ same_generator c g h t u a b =
       ]
     ]
 
+-- a chain has one first unbalanced generator with one total
 pub same_unbalanced : (c : Chain) (g h : ℕ) (t u : ℤ) → IsFirstUnbalanced c g t → IsFirstUnbalanced c h u → (g ≡ h) × (t ≡ u)
 same_unbalanced c g h t u a b =
     let same : g ≡ h = same_generator c g h t u a b in
     (same, (subst (λ (k : ℕ). IsFirstUnbalanced c k t) same a).total_is ∙ sym b.total_is)
 
+-- so the line for it is one
 pub same_infinite : (c : Chain) (g h : ℕ) (t u : ℤ) → IsFirstUnbalanced c g t → IsFirstUnbalanced c h u → infinite g t ≡ infinite h u
 same_infinite c g h t u a b =
     let same : g ≡ h = same_generator c g h t u a b in

@@ -192,8 +192,10 @@ module _ (c : Chain) (copies : ℕ) (g : Sides) (h : IsFatgraph c copies g) wher
       ap (λ (a : ℕ). letter_line a (base g + 16) (letter_byte (letter c (label g s)))) (same s (order_inside t n permutes n (omega arith) k l))) in
       (λ i. joined (head_line (20 * (n + vertices g) + 20) (base g + 24) ∷ vs i ∷ es i ∷ ls i ∷ last_line ∷ []))
 
+  -- a labelled fatgraph has no two drawings
   pub one_drawing : (text text' : List ℕ) → IsPicture c copies g text → IsPicture c copies g text' → text ≡ text'
   one_drawing text text' a b = a.text ∙ same_drawing a.x b.x (same_places (turn g) (length g) permutes a.x b.x a.laid_out b.laid_out) ∙ sym b.text
 
+  -- and it isn't without one
   pub some_drawing : ((text : List ℕ) → ¬ IsPicture c copies g text) → ⊥
   some_drawing none = some_places (turn g) (length g) permutes (λ x laid. none (drawing c g x) (record { x = x; laid_out = laid; text = refl }))

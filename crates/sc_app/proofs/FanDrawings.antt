@@ -165,6 +165,7 @@ module _ (corners : List Spot) (text text' : List ℕ) (a : IsFanDrawing corners
   one_drawing : text ≡ text'
   one_drawing = a.text ∙ ap (λ (lines : List ℕ). frame ++ lines ++ last_line) (same_edges corners one_points) ∙ sym b.text
 
+-- corners have no two drawings
 pub one_fan_drawing : (corners : List Corner) (text text' : List ℕ) → IsFanPicture corners text → IsFanPicture corners text' → text ≡ text'
 one_fan_drawing corners text text' a b =
     let same : a.spots ≡ b.spots = same_spots a.spots b.spots (a.drawn ∙ sym b.drawn) in
@@ -210,6 +211,7 @@ drawn_up_to corners (suc i) within =
 some_drawing : (corners : List Spot) → IsDrawn corners
 some_drawing corners = subst IsDrawn (take_all (length corners) corners (omega arith)) (drawn_up_to corners (length corners) (omega arith))
 
+-- corners in their ranges aren't without a drawing
 pub some_fan_drawing : (corners : List Corner) → AllByRecursion IsCornerInRange corners → ((text : List ℕ) → ¬ IsFanPicture corners text) → ⊥
 some_fan_drawing corners in_range never =
     let found = spots_for corners in_range in

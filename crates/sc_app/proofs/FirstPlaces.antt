@@ -8,9 +8,11 @@ none_first : (P : ℕ → Type 0) → ((i : ℕ) → P i → ((j : ℕ) → j < 
 none_first P never zero i h = absurd (omega arith)
 none_first P never (suc n) i h = λ p. never i p (λ j less. none_first P never n j (omega arith))
 
+-- a fact that no number is the first to have is had by none
 pub none_at_all : (P : ℕ → Type 0) → ((i : ℕ) → P i → ((j : ℕ) → j < i → ¬ P j) → ⊥) → (i : ℕ) → ¬ P i
 none_at_all P never i = none_first P never (suc i) i (omega arith)
 
+-- where no number is the first with a value, none below n has one
 pub first_some : {A : Type 0} (f : ℕ → Option A) → ((i : ℕ) (x : A) → f i ≡ Some x → ((j : ℕ) → j < i → f j ≡ None) → ⊥) → (n i : ℕ) → i < n → f i ≡ None
 first_some f never zero i h = absurd (omega arith)
 first_some f never (suc n) i h = elim (cases_option (f i)) [

@@ -23,9 +23,11 @@ same_some o x y a b = cc
 some_or_none : {A : Type 0} (o : Option A) (x : A) → o ≡ Some x → o ≡ None → ⊥
 some_or_none o x a b = cc
 
+-- words are a form of one command at most
 pub one_command : (words : List (List ℕ)) (c d : Command) → IsForm c words → IsForm d words → c ≡ d
 one_command words c d a b = same_some _ c d a b
 
+-- words that have no form are the form of no command
 pub no_command : (words : List (List ℕ)) (c : Command) → IsForm c words → HasNoForm words → ⊥
 no_command words c a none = some_or_none _ c a none
 
@@ -170,6 +172,7 @@ words_of_scl n words (inr a) =
     subst (IsForm (Scl n)) (sym a.0)
     (ap (option_map Scl) (spelling_told 1 MAX_PIVOTS n a.1 a.2))
 
+-- words ask for `scl` within n pivots exactly where they are `scl`, or it with the option and n
 pub scl_forms : (n : ℕ) (words : List (List ℕ)) → IsForm (Scl n) words ↔ AreWordsOfScl n words
 scl_forms n words = (scl_words n words, words_of_scl n words)
 
@@ -192,6 +195,7 @@ words_of_ball n words (inr a) =
     subst (IsForm (Ball n)) (sym a.0)
     (ap (option_map Ball) (spelling_told 1 MAX_PIVOTS n a.1 a.2))
 
+-- words ask for `ball` within n pivots exactly where they are `ball`, or it with the option and n
 pub ball_forms : (n : ℕ) (words : List (List ℕ)) → IsForm (Ball n) words ↔ AreWordsOfBall n words
 ball_forms n words = (ball_words n words, words_of_ball n words)
 
@@ -218,5 +222,6 @@ words_of_generate seed letters words a =
     subst (IsForm (Generate seed letters)) (sym a.0)
     (ap₂ generate (spelling_told 0 MAX_SEED seed (omega arith) a.1) (spelling_told 1 MAX_LETTERS letters a.2 a.3))
 
+-- words ask for `gen` by a seed with so many letters exactly where they are `gen` and these two numbers
 pub generate_form : (seed letters : ℕ) (words : List (List ℕ)) → IsForm (Generate seed letters) words ↔ AreWordsOfGenerate seed letters words
 generate_form seed letters words = (generate_words seed letters words, words_of_generate seed letters words)

@@ -17,12 +17,14 @@ use Rattle.sc_app.specs.Svg.{IsFanText}
 use Rattle.sc_app.specs.declared.said.Heading.TheVariants.{CertificateText, SurfaceText}
 use Rattle.sc_app.specs.Said.{IsCertificateText, IsTextOf, Says, is_headed_as_certificate, plan_of, plan_for}
 
+-- a certificate text has no fault, and is that of one certificate
 pub certificate_faultless : (input : List ℕ) (v : Certificate) → IsCertificateText input v → IsFaultless certificate_plan input
 certificate_faultless input v t = subst (IsFaultless certificate_plan) (sym t.text) (text_is_faultless v t.in_range)
 
 pub same_certificate : (input : List ℕ) (v w : Certificate) → IsCertificateText input v → IsCertificateText input w → v ≡ w
 same_certificate input v w t u = text_is_of_one v w t.in_range u.in_range (sym t.text ∙ u.text)
 
+-- a fan text has no fault, and is that of one fan
 pub fan_faultless : (input : List ℕ) (v : FanSaid) → IsFanText input v → IsFaultless fan_plan input
 fan_faultless input v t = subst (IsFaultless fan_plan) (sym t.text) (fans.text_is_faultless v t.in_range)
 
@@ -55,6 +57,7 @@ says_faultless input c n g (inl t) =
 says_faultless input c n g (inr t) =
     subst (λ (plan : Plan). IsFaultless plan input) (sym (plan_of_certificate input t.certificate t.text)) (certificate_faultless input t.certificate t.text)
 
+-- an input that says a surface has no first fault
 pub says_no_fault : (input : List ℕ) (c : Chain) (n : ℕ) (g : Sides) (at : ℕ) (kind : Kind) → Says input c n g → IsFirstFault (plan_for input) input at kind → ⊥
 says_no_fault input c n g at kind t f = faultless_first (plan_for input) input at kind (says_faultless input c n g t) f
 
@@ -63,6 +66,7 @@ two_headings : (input : List ℕ) (c : Chain) (n : ℕ) (g : Sides) (v : Certifi
 two_headings input c n g v t u =
     false≢true (sym (ap is_headed_as_certificate t.text ∙ surface_heading c n g) ∙ ap is_headed_as_certificate u.text ∙ certificate_heading v)
 
+-- an input says one chain, one number of copies and one list of sides
 pub same_surface : (input : List ℕ) (c : Chain) (n : ℕ) (g : Sides) (d : Chain) (m : ℕ) (h : Sides) → Says input c n g → Says input d m h → SameSurface c n g d m h
 same_surface input c n g d m h (inl t) (inl u) = one_text c n g d m h t.in_range u.in_range (sym t.text ∙ u.text)
 same_surface input c n g d m h (inl t) (inr u) = absurd (two_headings input c n g u.certificate t u.text)

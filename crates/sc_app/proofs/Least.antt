@@ -103,14 +103,17 @@ sides_answer : (n : ℕ) (input text : List ℕ) → AnswersTo (Scl n) input Sid
 sides_answer n input text (inl a) = absurd (cc a.1)
 sides_answer n input text (inr a) = a.1
 
+-- where `check` ends with `Done`, the text that `out` took shows that the surface is least
 pub least : (left old new : Option (List ℕ)) → Delivers Check left old new Done → IfSome left (λ input. (text : List ℕ) × ShowsLeast input text × Took old new text)
 least None old new d = tt
 least (Some input) old new d = (d.0, least_answer input d.0 d.1, d.2)
 
+-- where `scl` ends with `Done`, the text that `out` took shows the stable commutator length of the chain
 pub headline : (n : ℕ) (left old new : Option (List ℕ)) → Delivers (Scl n) left old new Done → IfSome left (λ input. (text : List ℕ) × ShowsScl input text × Took old new text)
 headline n None old new d = tt
 headline n (Some input) old new d = (d.0, shows_scl n input d.0 (done_answer n input d.0 d.1), d.2)
 
+-- it tells an unbalanced generator, or a solution within the pivots
 pub solved : (n : ℕ) (left old new : Option (List ℕ)) → Delivers (Scl n) left old new Done
     → IfSome left (λ input. (text : List ℕ) × OfItsChain input (λ c. IsInfinite c text ⊎ IsSolved c n text) × Took old new text)
 solved n None old new d = tt

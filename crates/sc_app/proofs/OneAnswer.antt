@@ -231,9 +231,11 @@ one_of_reading (AtMost limit) c input text text' s s' one (inr a) (inr b) = one_
 of_command : (words : List (List ℕ)) (c : Command) (input text : List ℕ) (s : Status) → IsForm c words → Answers words input s text → AnswersTo c input s text
 of_command words c input text s form a = subst (λ (d : Command). AnswersTo d input s text) (one_command words a.0 c a.1 form) a.2
 
+-- where words and input have one right answer, it has one status
 pub one_answer : (words : List (List ℕ)) (input text text' : List ℕ) (s s' : Status) → HasOneAnswer words input → Answers words input s text → Answers words input s' text' → s ≡ s'
 one_answer words input text text' s s' one a b = one_of_reading (reads b.0) b.0 input text text' s s' (one b.0 b.1) (of_command words b.0 input text s b.1 a) b.2
 
+-- and one text
 pub one_text_answer : (words : List (List ℕ)) (input text text' : List ℕ) (s s' : Status) → HasOneAnswer words input → Answers words input s text → Answers words input s' text' → text ≡ text'
 one_text_answer words input text text' s s' one a b =
     let same : AnswersTo b.0 input s text = of_command words b.0 input text s b.1 a in

@@ -161,6 +161,7 @@ response_text (Scl pivots) input text text' s one r r' = scl_text pivots input t
 response_text (Ball pivots) input text text' s one r r' = ball_text pivots input text text' s one r r'
 response_text (Generate seed letters) input text text' s one r r' = absurd one
 
+-- a command answers an input that is determined by one text for each status
 pub one_text : (reading : Reading) (c : Command) (input text text' : List ℕ) (s : Status) → DeterminedBy reading c input → RespondsBy reading c input s text → RespondsBy reading c input s text' → text ≡ text'
 one_text Nothing c input text text' s one a b = response_text c [] text text' s one a b
 one_text (AtMost limit) c input text text' s one (inl a) (inl b) = a.2 ∙ sym b.2

@@ -54,6 +54,7 @@ module _ (lines : List RawLine) (raw : All IsRawLine lines) where
         reduced = good.reduced;
       }
 
+  -- raw lines whose chain is within the limits make a chain in its ranges
   pub chain_of_lines : IsWithin (chain_of lines) → IsChainInRange (chain_of lines)
   chain_of_lines within = record {
     count = within.few_words;

@@ -56,6 +56,7 @@ pub told : (Tells : Chain → ℕ → Sides → List ℕ → Type 0) (input : Li
     → Tells f.chain f.copies f.sides items → RespondsBySides Tells input Done items
 told Tells input f items said tells = (f.chain, f.copies, f.sides, said.0, said.1, tells)
 
+-- an answer of `scl` for the chain of a chain text within the limits is one to the text
 pub valued : (n : ℕ) (input : List ℕ) (lines : List RawLine) (c : Chain) → IsChainText input lines → c ≡ chain_of lines → IsWithin (chain_of lines)
     → (s : Status) (text : List ℕ) → IsValueOf n c s text → SclResponds n input s text
 valued n input lines c read same within Done text v = (lines, read, within, subst (λ (d : Chain). IsValueOf n d Done text) same v)

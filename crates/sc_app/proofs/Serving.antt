@@ -113,12 +113,14 @@ ends_whole NotRead c input text W old new s h a took = absurd h
 ends_whole NotWritten c input text W old new s h a took = absurd h
 ends_whole NoMemory c input text W old new s h a took = absurd h
 
+-- a command that responds, or whose sink failed, ends by a status that says nothing of the source
 pub needs_no_source : (c : Command) (W : Type 0) (old new : Option (List ℕ)) (input text : List ℕ) (s r : Status) → Responds c input s text
     → ((r ≡ s) × Took old new text) ⊎ ((r ≡ WriteFault) × W × TookPart old new text) → NeedsNoSource (kind_of r)
 needs_no_source c W old new input text s r resp (inl h) =
     subst (λ (x : Status). NeedsNoSource (kind_of x)) (sym h.0) (needs_none (kind_of s) text (suits c input text s resp))
 needs_no_source c W old new input text s r resp (inr h) = subst (λ (x : Status). NeedsNoSource (kind_of x)) (sym h.0) tt
 
+-- it ends as its status says: with its text taken, or with a part of it where the sink failed
 pub ends : (c : Command) (W : Type 0) (old new : Option (List ℕ)) (input text : List ℕ) (s r : Status) → Fits (reads c) input → Responds c input s text
     → ((r ≡ s) × Took old new text) ⊎ ((r ≡ WriteFault) × W × TookPart old new text) → EndsBy (kind_of r) c (Some input) ⊥ W old new r
 ends c W old new input text s r fits resp (inl h) =

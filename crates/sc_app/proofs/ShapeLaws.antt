@@ -98,9 +98,11 @@ one_list c g xs ys a b =
     (λ s l. one_least_of_boundary g s (a.boundary s) (b.boundary s) l (a.boundary_is s l) (b.boundary_is s l))
     ∙ sym b.all
 
+-- a labelled fatgraph has no two texts of its components
 pub one_shape : (c : Chain) (n : ℕ) (g : Sides) (text text' : List ℕ) → IsShape c n g text → IsShape c n g text' → text ≡ text'
 one_shape c n g text text' a b = a.2 ∙ ap shape_text (one_list c g a.0 b.0 a.1 b.1) ∙ sym b.2
 
+-- and it isn't without one
 pub some_shape : (c : Chain) (n : ℕ) (g : Sides) → ((text : List ℕ) → ¬ IsShape c n g text) → ⊥
 some_shape c n g none =
     chosen (IsLeastOfComponent g) (length g) (λ s l. some_least (mate g) (next g) (length g) s l)

@@ -34,6 +34,7 @@ one_more i (x ∷ xs) (suc k) d l =
     ∙ sym (append_assoc (text_of here) (text_of (lines_from (suc i) (take k xs))) (text_of (component_lines (i + suc k) (get_or xs k d))))
     ∙ ap (λ (t : List ℕ). t ++ text_of (component_lines (i + suc k) (get_or xs k d))) (sym (flat_map-append ended here (lines_from (suc i) (take k xs))))
 
+-- the lines of the next component, with its number, behind those of the components before
 pub numbered_next : (xs : List Component) (k : ℕ) (x d : Component) (old new : List ℕ) → k < length xs → x ≡ get_or xs k d → old ≡ text_of (lines_from 0 (take k xs))
     → new ≡ old ++ text_of (component_lines k x) → new ≡ text_of (lines_from 0 (take (k + 1) xs))
 numbered_next xs k x d old new l at before more =

@@ -178,6 +178,7 @@ module _ (v : Certificate) (never : (flaw : TableFlaw) → ¬ IsFirstTableFlaw v
   pub tables_vouch : Vouch v.chain v.list v.tables
   tables_vouch = flawless_vouch v.chain v.list v.tables (λ flaw h. none_at_all InRow (λ s here rows. no_row s rows here) (start_of flaw) (flaw, refl, h))
 
+-- no input of `check` is without an answer
 pub check_answered : (input : List ℕ) → ((s : Status) (text : List ℕ) → ¬ CheckResponds input s text) → ⊥
 check_answered input none =
     let t = faultless_is_text input (faultless certificate_plan input (λ i kind here before. none (Malformed i kind) [] (record { here = here; least = before }, refl))) in
@@ -275,6 +276,7 @@ module _ (n : ℕ) (input : List ℕ) (one : ¬ HasSeveralAnswers input) (none :
       (λ g t first. none Done (infinite g t) (lines, good_text, within, inl (record { generator = g; total = t; first = first; text_is = refl }))) in
       one (lines, good_text, within, balanced)
 
+  -- so an input of `scl` that has one right answer isn't without it
   pub scl_answered : ⊥
   scl_answered = elim (cases_lt MAX_WORDS (length (chain_of lines))) [
     | inl many ↦ none (Large (Words (length (chain_of lines)))) [] (lines, good_text, record { many = many; count_is = refl }, refl)
@@ -314,6 +316,7 @@ module _ (n : ℕ) (input : List ℕ) (one : ¬ HasSeveralBalls input) (none : (
       ]
     ]
 
+  -- so an input of `ball` that has one right answer isn't without it
   pub ball_answered : ⊥
   ball_answered = read_answered two.0 two.1 two.2
 
@@ -366,6 +369,7 @@ answered (Scl pivots) input one none = scl_answered pivots input one none
 answered (Ball pivots) input one none = ball_answered pivots input one none
 answered (Generate seed letters) input one none = absurd one
 
+-- no command is without an answer to an input that is determined
 pub some_answer : (c : Command) (input : List ℕ) → DeterminedBy (reads c) c input → ((s : Status) (text : List ℕ) → ¬ AnswersTo c input s text) → ⊥
 some_answer c input one none = by_reading (reads c) one none
   where

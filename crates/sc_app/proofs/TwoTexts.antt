@@ -17,6 +17,7 @@ some_or_none : {A : Type 0} (o : Option A) → IsSome o → o ≡ None → ⊥
 some_or_none None some none = true≢false (sym some)
 some_or_none (Some x) some none = absurd (cc)
 
+-- a text has one first wrong line, of one kind
 pub one_wrong : (input : List ℕ) (l m : ℕ) (j k : Kind) → IsFirstWrong input l j → IsFirstWrong input m k → Malformed l j ≡ Malformed m k
 one_wrong input l m j k a b = let same = wrong_same input l m j k a b in ap₂ Malformed same.0 same.1
 
@@ -31,6 +32,7 @@ one_separator input m n a b = elim (cases_lt m n) [
   ]
 ]
 
+-- a text of two chains is one of one list of lines for each
 pub same_two : (input : List ℕ) (first second first' second' : List RawLine) → IsTwoText input first second → IsTwoText input first' second' → (first ≡ first') × (second ≡ second')
 same_two input first second first' second' a b =
     let same : a.separator ≡ b.separator = one_separator input a.separator b.separator a.separates b.separates in (
@@ -103,6 +105,7 @@ module _ (input : List ℕ) (never : (n : ℕ) (kind : Kind) → ¬ IsFirstWrong
     }))
   ]
 
+  -- a text without a first wrong line is a text of two chains
   pub two_texts : (first : List RawLine) × (second : List RawLine) × IsTwoText input first second
   two_texts =
       let place : ℕ = position_or_len is_separator (text_lines input) in (

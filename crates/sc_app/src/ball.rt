@@ -248,6 +248,7 @@ fn chain_within(alloc: Global, lines: &[RawLine]) -> Result<Chain, AllocError>
         Ok(chain) => Ok(chain),
         Err(fault) => match fault {
             ChainFault::Memory => Err(AllocError),
+            // The lines are within the limits, as the contract demands.
             _ => unreachable!(),
         },
     }
@@ -306,6 +307,7 @@ fn answer_lines(
         Err(ChainFault::ManyWords { count }) => Ok(Answer::ManyWords(count)),
         Err(ChainFault::ManyPositions { count }) => Ok(Answer::ManyPositions(count)),
         Err(ChainFault::Memory) => Err(AllocError),
+        // The words are reduced, none is empty, and coefficients are too small for the chain to be too long.
         Err(_) => unreachable!(),
     }
 }

@@ -251,6 +251,7 @@ pub fn run<S: Source, O: Sink, E: Sink>(
         (O.taken out.old) (O.taken out.new) (E.taken notes.old) (E.taken notes.new) result }
 {
     let status = serve_words(alloc, words, source, out);
+    // The status stays what it is where its note can't be written.
     let _ = write_note(&status, notes);
     status
 }

@@ -1,4 +1,5 @@
-//! The surface that an input says, as its text or in a certificate. What kind of text a first line heads is decided here.
+//! Reading the surface that an input says. The input is the text of a surface, or that of a certificate, which has a
+//! surface in it. The first line decides which: what doesn't begin as a certificate is read as a surface.
 
 ghost use Rattle.std.specs.Prelude.{◌≡◌, IfOk, IfErr};
 ghost use Rattle.sc_line.specs.Faults.{IsFaultOf};

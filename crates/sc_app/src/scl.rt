@@ -144,6 +144,7 @@ pub fn answer_scl(alloc: Global, pivots: u32, input: &[u8]) -> Result<Answer, Al
         Err(ChainFault::ManyWords { count }) => Ok(Answer::ManyWords(count)),
         Err(ChainFault::ManyPositions { count }) => Ok(Answer::ManyPositions(count)),
         Err(ChainFault::Memory) => Err(AllocError),
+        // The words are reduced, none is empty, and coefficients are too small for the chain to be too long.
         Err(_) => unreachable!(),
     }
 }

@@ -15,6 +15,7 @@ use Rattle.sc_cone.proofs.Arcs.{arc_of_one, at_before, at_here, arc_pushed, arc_
 use Rattle.sc_ball.specs.Neighbours.{IsClosed}
 use Rattle.sc_ball.specs.Arcs.{IsSpareOf, IsTightLast, list_in, AreArcTo, IsChosen}
 
+-- the corner of the first entry is an arc without edges, with the entry's list to spare
 pub arc_begun : (q : Quadrant) (first second : Chain) (c : Corner) (r : Reached) → IsGoodCorner q first second c → c.direction ≡ first_end q → c.direction ≡ r.direction → AreArcTo q first second [] c [] None (Some r.list) 1 r
 arc_begun q first second c r good begins is = record {
   arc = arc_of_one q first second c good;
@@ -35,6 +36,7 @@ module _ (q : Quadrant) (first second : Chain) where
       not_tight (subst (λ (f : Edge). IsTightAt q first second f.list d) (at_here no_edge edges e [] k place) tight)
 
   module _ (corners : List Corner) (last : Corner) (edges : List Edge) (spare : Option Prices) (n : ℕ) (r u : Reached) (x : Corner) where
+    -- where the last edge's list is tight at the next corner too, the edge goes on to it
     pub arc_goes_on : (e : Edge) → IsChain first → IsChain second → AreArcTo q first second corners last edges (Some e) spare n r → IsGoodCorner q first second x → x.direction ≡ u.direction → TurnsLeft r.direction x.direction → IsTightAt q first second e.list x.direction → AreArcTo q first second corners x edges (Some (record { from = e.from; to = x; list = e.list })) (Some u.list) (suc n) u
     arc_goes_on e is_first is_second so_far good is left tight =
         let count : suc (length (edges ++ e ∷ [])) ≡ length (corners ++ last ∷ []) = so_far.arc.count in
@@ -48,6 +50,7 @@ module _ (q : Quadrant) (first second : Chain) where
           few = omega (arith, so_far.few);
         }
 
+    -- else the edge ends at its last corner, and one with a list that is tight at both corners goes on from there
     pub arc_pushed_on : (edge : Option Edge) (list : Prices) (left_over : Option Prices) → AreArcTo q first second corners last edges edge spare n r → IsGoodCorner q first second x → x.direction ≡ u.direction → TurnsLeft r.direction x.direction → (IsTightLast q first second edge x.direction → ⊥) → Covers (quadrant_chain q first second) list → IsTightAt q first second list r.direction → IsTightAt q first second list x.direction → IsSpareOf (Some list) u.list left_over → AreArcTo q first second (corners ++ last ∷ []) x (edges ++ option_to_list edge) (Some (record { from = last; to = x; list = list })) left_over (suc n) u
     arc_pushed_on edge list left_over so_far good is left not_tight covers at_r at_x left_is =
         let here : IsTightAt q first second list last.direction = subst (IsTightAt q first second list) (sym so_far.last_is) at_r in
@@ -91,6 +94,7 @@ module _ (q : Quadrant) (first second : Chain) where
   last_tight None list d is tight = absurd is
   last_tight (Some e) list d is tight = subst (λ (l : Prices). IsTightAt q first second l d) (sym is) tight
 
+  -- where no list is to spare, the edge takes the second one's
   pub none_to_spare : (r u : Reached) (edge : Option Edge) → IsTightAt q first second u.list u.direction → (IsTightLast q first second edge u.direction → ⊥) → IsClosed q first second r u → IsSpareOf (list_in edge) r.list None → IsChosen q first second r u u.list None
   none_to_spare r u edge there not_tight closed is = elim closed [
     | inl tight ↦ absurd (not_tight (last_tight edge r.list u.direction is tight))

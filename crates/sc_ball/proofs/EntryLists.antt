@@ -18,6 +18,7 @@ module _ {A : Type 0} (f : A → Reached) where
   pub reached_at : (xs : List A) (i : ℕ) (x : A) → i < length xs → x ≡ get_or xs i x → reached (map f xs) i ≡ f x
   reached_at xs i x inside is = get_or-map f xs i x nothing_reached inside ∙ ap f (sym is)
 
+  -- to put in and then map is to map and then put in
   pub map-insert : (xs : List A) (i : ℕ) (x : A) → map f (insert xs i x) ≡ insert (map f xs) i (f x)
   map-insert xs i x =
       map-append f (take i xs) (x ∷ drop i xs)
@@ -33,10 +34,12 @@ module _ {A : Type 0} (f : A → Reached) where
     abbrev pub AreClosed : List A → ℕ → Type 0
     AreClosed xs n = (i : ℕ) → suc i < n → IsClosed q first second (reached (map f xs) i) (reached (map f xs) (suc i))
 
+    -- an entry that is put in behind the place leaves the neighbours up to there closed
     pub closed_before : (xs : List A) (place : ℕ) (x : A) → place < length xs → AreClosed xs (place + 1) → AreClosed (insert xs (place + 1) x) (place + 1)
     closed_before xs place x inside closed i low =
         subst₂ (IsClosed q first second) (sym (kept_at xs place i x (omega arith) inside)) (sym (kept_at xs place (suc i) x (omega arith) inside)) (closed i low)
 
+    -- where the neighbours at the place are closed too, one pair more is
     pub closed_further : (xs : List A) (place : ℕ) → IsClosed q first second (reached (map f xs) place) (reached (map f xs) (suc place)) → AreClosed xs (place + 1) → AreClosed xs (place + 1 + 1)
     closed_further xs place here closed i low =
         elim (cases_eq i place) [
@@ -44,10 +47,12 @@ module _ {A : Type 0} (f : A → Reached) where
           | inr other ↦ closed i (omega (arith, other))
         ]
 
+-- what holds of all entries and of one that is put in holds of all with it
 pub All-insert : {A : Type 0} (P : A → Type 0) (xs : List A) (i : ℕ) (x : A) → All P xs → P x → All P (insert xs i x)
 All-insert P xs i x all here = All-append P (take i xs) (x ∷ drop i xs) (All-take P i xs all) (All-cons P x (drop i xs) here (All-drop P i xs all))
 
 -- ---- items that are taken one after another
+-- what stands behind the items that were taken has their number as its place; behind the last stands none
 pub item_at : {A : Type 0} (items taken : List A) (x : A) (rest : List A) → taken ++ x ∷ rest ≡ items → slice_get items (length taken) ≡ Some x
 item_at {A = A} items taken x rest split =
     let inside : length taken < length (taken ++ x ∷ rest) = omega (arith, length-append taken (x ∷ rest)) in

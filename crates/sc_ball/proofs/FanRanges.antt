@@ -30,6 +30,7 @@ ends_apart Upper e = one_is_not_zero (ap (λ (d : Direction). d.s) e)
     one_is_not_zero : pos 1 ≡ pos 0 → ⊥
     one_is_not_zero h = omega (arith, ints, h)
 
+-- a half has a first and a last corner, and these are two
 pub half_has_two : (q : Quadrant) (first second : Chain) (corners : List Corner) (edges : List Edge) → IsHalf q first second corners edges → 2 ≤ length corners
 half_has_two q first second corners edges half =
     elim (cases_lt 1 (length corners)) [
@@ -103,6 +104,7 @@ module _ (first second : Chain) (before : List Corner) (c d : Corner) (after : L
   abbrev HasList : Quadrant → Edge → Type 0
   HasList q e = IsListFor (quadrant_chain q first second) e.list
 
+  -- the list of each edge of both halves is for the chain of the edge's quadrant
   pub lists_of_two : All (HasList Lower) es → All (HasList Upper) fs → (i : ℕ) → i < length (es ++ fs) → IsListFor (edge_chain first second (before ++ d ∷ after) i) (edge whole i).list
   lists_of_two low_lists high_lists i inside =
       elim (cases_lt i (length es)) [
@@ -127,6 +129,7 @@ module _ (first second : Chain) (before : List Corner) (c d : Corner) (after : L
       of_quadrant q e list = subst (λ (p : Quadrant). HasList p (edge whole i)) e list
 
 -- ---- the lists by their numbers
+-- what holds of the element of each number holds of all elements, and so of the lists of edges by number
 pub by_number : {A : Type 0} (P : A → Type 0) (none : A) (xs : List A) → ((i : ℕ) → i < length xs → P (get_or xs i none)) → AllByRecursion P xs
 by_number P none [] h = tt
 by_number P none (x ∷ xs) h = (h 0 (omega arith), by_number P none xs (λ i inside. h (suc i) (omega arith)))

@@ -58,6 +58,7 @@ module _ (q : Quadrant) (first second : Chain) (s : Solved) (within : IsIn q s.r
   good_corner : IsGoodCorner q first second (corner_at s)
   good_corner = record { within = within; primitive = primitive; value = solved.value }
 
+  -- the corner of the first entry is an arc in its ranges
   pub arc_of_first : s.reached.direction ≡ first_end q → IsArcTo q first second [] (corner_at s) [] None (Some s.reached.list) 1 (seen s)
   arc_of_first begins = record {
     grown = arc_begun q first second (corner_at s) (seen s) good_corner begins refl;
@@ -82,6 +83,7 @@ module _ (q : Quadrant) (first second : Chain) where
     in_range : IsCornerInRange x
     in_range = corner_in_range q first second s step.within step.primitive step.solved
 
+    -- where the last edge's list is tight there too, the edge goes on to the next entry's corner
     pub arc_further : (edge : Option Edge) → IsChain first → IsChain second → IsArcTo q first second corners last edges edge spare n r → IsTightLast q first second edge s.reached.direction → IsArcTo q first second corners x edges (option_map (ended_at x) edge) (Some s.reached.list) (suc n) (seen s)
     arc_further None is_first is_second arc tight = absurd tight
     arc_further (Some e) is_first is_second arc tight = record {
@@ -104,6 +106,7 @@ module _ (q : Quadrant) (first second : Chain) where
       | inr e ↦ subst (Covers (quadrant_chain q first second)) (sym e) step.solved.reached.covers
     ]
 
+    -- else one more edge goes to it, with the list that is chosen
     pub arc_with_more : (edge : Option Edge) (list : Prices) (left_over : Option Prices) → IsArcTo q first second corners last edges edge spare n r → (IsTightLast q first second edge s.reached.direction → ⊥) → IsChosen q first second r (seen s) list left_over
         → IsArcTo q first second (corners ++ last ∷ []) x (edges ++ option_to_list edge) (Some (record { from = last; to = x; list = list })) left_over (suc n) (seen s)
     arc_with_more edge list left_over arc not_tight chosen =
@@ -126,6 +129,7 @@ arc_same q first second corners corners' last last' edges edges' edge edge' spar
     (subst (λ (x : Option Edge). IsArcTo q first second corners last edges x spare' n r) (sym t)
     (subst (λ (x : Option Prices). IsArcTo q first second corners last edges edge x n r) (sym u) arc))))
 
+-- the arc that is begun with the corner of a solved direction
 pub begun_is : (q : Quadrant) (first second : Chain) (corners : List CornerParts) (last : CornerParts) (edges : List EdgeParts) (s : Solved) → corners ≡ [] → last ≡ corner_in s → edges ≡ []
     → IsIn q s.reached.direction → IsPrimitive s.reached.direction → s.reached.direction ≡ first_end q → IsSolvedIn q first second s → IsArcTo q first second (map corner_said corners) (corner_said last) (map edge_said edges) None (Some s.reached.list) 1 (seen s)
 begun_is q first second corners last edges s no_corners last_is no_edges within primitive begins solved =
@@ -133,6 +137,7 @@ begun_is q first second corners last edges s no_corners last_is no_edges within 
     (ap (map corner_said) no_corners) (ap corner_said last_is) (ap (map edge_said) no_edges) refl refl
     (arc_of_first q first second s within primitive solved begins)
 
+-- the arc whose last edge goes on to the next entry
 pub extended_is : (q : Quadrant) (first second : Chain) (a : Arc) (last : CornerParts) (edge : Option EdgeParts) (s : Solved) (n : ℕ) (r : Reached) → last ≡ corner_in s → option_map edge_said edge ≡ option_map (ended_at (corner_said last)) (option_map edge_said a.edge)
     → IsChain first → IsChain second → ArcIsTo q first second a n r → IsStepTo q first second r s → IsTightLast q first second (option_map edge_said a.edge) s.reached.direction
     → IsArcTo q first second (map corner_said a.corners.items) (corner_said last) (map edge_said a.edges.items) (option_map edge_said edge) (Some s.reached.list) (suc n) (seen s)
@@ -156,6 +161,7 @@ ChoosesAt q first second a r s list spare end =
     → IsSpareOf (list_in (option_map edge_said a.edge)) r.list a.spare → (IsTightLast q first second (option_map edge_said a.edge) end.direction → ⊥) → IsClosed q first second r (record { direction = end.direction; list = s.reached.list })
     → IsChosen q first second r (record { direction = end.direction; list = s.reached.list }) list spare
 
+-- the arc that has one more edge to the next entry
 pub pushed_is : (q : Quadrant) (first second : Chain) (a : Arc) (corners : List CornerParts) (last : CornerParts) (edges : List EdgeParts) (edge : EdgeParts) (spare : Option Prices) (s : Solved) (n : ℕ) (r : Reached) (list : Prices) → corners ≡ a.corners.items ++ a.last ∷ [] → last ≡ corner_in s
     → edges ≡ a.edges.items ++ option_to_list a.edge → edge_said edge ≡ record { from = corner_said a.last; to = corner_said last; list = list } → ChoosesAt q first second a r s list spare last
     → ArcIsTo q first second a n r → IsStepTo q first second r s → (IsTightLast q first second (option_map edge_said a.edge) s.reached.direction → ⊥)
@@ -169,6 +175,7 @@ pushed_is q first second a corners last edges edge spare s n r list corners_are 
     (ap (map corner_said) corners_are ∙ said_corners a.corners.items a.last) (ap corner_said last_is) (ap (map edge_said) edges_are ∙ said_edges a.edges.items a.edge) (ap (λ (e : Edge). Some e) to_here) refl
     (arc_with_more q first second (map corner_said a.corners.items) (corner_said a.last) (map edge_said a.edges.items) a.spare n r s step (option_map edge_said a.edge) list spare arc not_tight chosen)
 
+-- an arc at the end of its quadrant is a half, with its last corner and edge behind the others
 pub finished_is : (q : Quadrant) (first second : Chain) (a : Arc) (h : Half) (n : ℕ) (r : Reached) → h.corners.items ≡ a.corners.items ++ a.last ∷ [] → h.edges.items ≡ a.edges.items ++ option_to_list a.edge
     → ArcIsTo q first second a n r → r.direction ≡ last_end q → n ≤ most_entries → IsHalfFan q first second h
 finished_is q first second a h n r corners edges arc ends few =
@@ -185,6 +192,7 @@ finished_is q first second a h n r corners edges arc ends few =
       few = omega (arith, ap length corners, length-append a.corners.items (a.last ∷ []), length-map a.corners.items corner_said, arc.grown.few);
     }
 
+-- the same of an answer that may be a refusal
 pub finished_ok : {E : Type 0} (q : Quadrant) (first second : Chain) (a : Arc) (n : ℕ) (r : Reached) (result : Result Half E) → IfOk result (λ h. h.corners.items ≡ a.corners.items ++ a.last ∷ []) → IfOk result (λ h. h.edges.items ≡ a.edges.items ++ option_to_list a.edge)
     → ArcIsTo q first second a n r → r.direction ≡ last_end q → n ≤ most_entries → IfOk result (IsHalfFan q first second)
 finished_ok q first second a n r (Ok h) corners edges arc ends few = finished_is q first second a h n r corners edges arc ends few
@@ -208,6 +216,7 @@ module _ (q : Quadrant) (first second : Chain) (is_first : IsChain first) (is_se
     read_is : s ≡ get_or entries n s
     read_is = sym (get_or_from_slice_get entries n s s at_n)
 
+    -- the entry number n of the search is this one, and is solved
     pub entry_is : reached rs n ≡ seen s
     entry_is = reached_at seen entries n s inside read_is
 
@@ -248,6 +257,7 @@ module _ (q : Quadrant) (first second : Chain) (is_first : IsChain first) (is_se
     pub along_further : (a b : Arc) → IsArcAlong q first second rs (Some a) n → ((m : ℕ) (r : Reached) → ArcIsTo q first second a m r → IsStepTo q first second r s → ArcIsTo q first second b (suc m) (seen s)) → IsArcAlong q first second rs (Some b) (suc n)
     along_further a b arc grows = (n, refl, subst (ArcIsTo q first second b (suc n)) (sym entry_is) (grows n (reached rs arc.0) arc.2 (step_at arc.0 arc.1)))
 
+    -- the same of an answer that may be a refusal
     pub along_further_ok : {E : Type 0} (a : Arc) (result : Result Arc E) → IsArcAlong q first second rs (Some a) n → ((m : ℕ) (r : Reached) → ArcIsTo q first second a m r → IsStepTo q first second r s → IfOk result (λ b. ArcIsTo q first second b (suc m) (seen s))) → IfOk result (λ b. IsArcAlong q first second rs (Some b) (suc n))
     along_further_ok a (Ok b) arc grows = along_further a b arc grows
     along_further_ok a (Err e) arc grows = tt
@@ -257,10 +267,12 @@ module _ (q : Quadrant) (first second : Chain) (is_first : IsChain first) (is_se
   along_all a h arc finishes =
       finishes (length entries) (reached rs arc.0) arc.2 (row.ends arc.0 (sym arc.1 ∙ sym (length-map entries seen))) (few_entries q first second is_first is_second entries (length entries) searched)
 
+  -- the same of an answer that may be a refusal
   pub along_all_ok : {E : Type 0} (a : Arc) (result : Result Half E) → IsArcAlong q first second rs (Some a) (length entries) → ((n : ℕ) (r : Reached) → ArcIsTo q first second a n r → r.direction ≡ last_end q → n ≤ most_entries → IfOk result (IsHalfFan q first second)) → IfOk result (IsHalfFan q first second)
   along_all_ok a (Ok h) arc finishes = along_all a h arc finishes
   along_all_ok a (Err e) arc finishes = tt
 
+  -- a search has entries
   pub some_entries : 0 < length entries
   some_entries = subst (λ (k : ℕ). 0 < k) (length-map entries seen) (some_in rs searched.search)
     where

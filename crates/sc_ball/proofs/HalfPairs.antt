@@ -35,12 +35,14 @@ module _ (first second : Chain) where
     pub first_value : IsValueOf (chain_of Upper first second d.direction) d.value.0 d.value.1
     first_value = high.arc.values 0 (omega arith)
 
+  -- two halves that meet have one value there
   pub one_value : (before : List Corner) (c : Corner) (es : List Edge) (d : Corner) (after : List Corner) (fs : List Edge) → IsHalf Lower first second (before ++ c ∷ []) es → IsHalf Upper first second (d ∷ after) fs → c.value.0 *ℤ d.value.1 ≡ d.value.0 *ℤ c.value.1
   one_value before c es d after fs low high =
       let here : IsValueOf (chain_of Lower first second right) c.value.0 c.value.1 = subst (λ (x : Direction). IsValueOf (chain_of Lower first second x) c.value.0 c.value.1) (last_is_right before c es low) (last_value before c es low) in
       let there : IsValueOf (chain_of Upper first second right) d.value.0 d.value.1 = subst (λ (x : Direction). IsValueOf (chain_of Upper first second x) d.value.0 d.value.1) (first_is_right d after fs high) (first_value d after fs high) in
       unique (chain_of Lower first second right) c.value.0 c.value.1 d.value.0 d.value.1 here (axis_quadrants Upper Lower first second d.value.0 d.value.1 there)
 
+  -- where they meet in one corner they are a fan
   pub fan_of_two : (before : List Corner) (c : Corner) (es : List Edge) (d : Corner) (after : List Corner) (fs : List Edge) → c ≡ d → IsHalf Lower first second (before ++ c ∷ []) es → IsHalf Upper first second (d ∷ after) fs → IsFan (record { first = first; second = second; corners = before ++ d ∷ after; edges = es ++ fs })
   fan_of_two before c es d after fs same low high =
       fan_of_halves first second before d after es fs (subst (λ (x : Corner). IsHalf Lower first second (before ++ x ∷ []) es) same low) high

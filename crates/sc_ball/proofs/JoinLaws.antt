@@ -142,5 +142,6 @@ module _ (first second : Chain) (low high : Half) (is_low : IsHalfFan Lower firs
             first_range second_range,
       )
 
+  -- the halves of both quadrants, joined at the corner in which they meet, are a fan, in its range where the chains are
   pub joined_is : (left : List CornerParts) (last : Option CornerParts) → low.corners.items ≡ left ++ option_to_list last → (0 < length low.corners.items → IsSome last) → IsJoined first second low high left f → IsGood
   joined_is left last low_is some joined = joined_by left last high.corners.items low_is some refl joined

@@ -42,6 +42,7 @@ pub open_unless : (q : Quadrant) (first second : Chain) (r u : Reached) → (IsC
 open_unless q first second r u not_closed = record { beyond = λ tight. not_closed (inl tight); back = λ tight. not_closed (inr tight) }
 
 -- ---- directions that are due
+-- an end of a quadrant is light, since its chain is one of the two small ones
 pub end_is_light : (q : Quadrant) (first second : Chain) (d : Direction) → IsSmallChain first → IsSmallChain second → (d ≡ first_end q) ⊎ (d ≡ last_end q) → IsLight first second d
 end_is_light q first second d is_first is_second is_end = elim is_end [ inl e ↦ subst (IsLight first second) (sym e) (light_first q) | inr e ↦ subst (IsLight first second) (sym e) (light_last q) ]
   where
@@ -87,6 +88,7 @@ module _ (q : Quadrant) (first second : Chain) where
   lists_of : (entries : List Solved) → All (IsSolvedIn q first second) entries → HaveListsFor q first second (entries_of entries)
   lists_of entries all = All-map (λ (r : Reached). IsListFor (quadrant_chain q first second) r.list) seen entries (λ i none inside. (all i none inside).list)
 
+  -- the two ends of a quadrant, solved, are a search
   pub searched_ends : (one other : Solved) → one.reached.direction ≡ first_end q → other.reached.direction ≡ last_end q → IsSolvedIn q first second one → IsSolvedIn q first second other → IsSearchedTo q first second (one ∷ other ∷ []) 1
   searched_ends one other from to is_one is_other = record {
     search = begun from to is_one.reached is_other.reached;
@@ -94,13 +96,16 @@ module _ (q : Quadrant) (first second : Chain) where
     closed = λ i low. absurd (omega arith);
   }
 
+  -- where the place is that of the last entry, all neighbours are closed
   pub searched_all : (entries : List Solved) (place : ℕ) → IsSearchedTo q first second entries (place + 1) → length entries ≤ place + 1 → IsSearchedTo q first second entries (length entries)
   searched_all entries place so_far few = record { search = so_far.search; solved = so_far.solved; closed = λ i low. so_far.closed i (omega arith) }
 
   module _ (is_first : IsChain first) (is_second : IsChain second) (entries : List Solved) where
+    -- the entries of a search go round their quadrant
     pub row_of : (n : ℕ) → IsSearchedTo q first second entries n → IsRow q first second (entries_of entries)
     row_of n so_far = search_is_row q first second is_first is_second (entries_of entries) so_far.search
 
+    -- they are no more than there may be
     pub few_entries : (n : ℕ) → IsSearchedTo q first second entries n → length entries ≤ most_entries
     few_entries n so_far =
         subst (λ (k : ℕ). k ≤ most_entries) (length-map entries seen)
@@ -114,6 +119,7 @@ module _ (q : Quadrant) (first second : Chain) where
       mapped_inside : suc place < length (entries_of entries)
       mapped_inside = omega (arith, length-map entries seen)
 
+      -- the entries at the place and behind it are these two, and are solved
       pub here_is : reached (entries_of entries) place ≡ seen here
       here_is = reached_at seen entries place here (omega arith) at_here
 
@@ -126,6 +132,7 @@ module _ (q : Quadrant) (first second : Chain) where
       pub there_solved : IsSolvedIn q first second there
       there_solved = subst (IsSolvedIn q first second) (sym at_there) (All-get_or (IsSolvedIn q first second) entries (place + 1) there inside so_far.solved)
 
+      -- where they are open, they are a gap
       pub gap_here : IsOpen q first second (seen here) (seen there) → IsGap q first second (seen here) (seen there)
       gap_here opened =
           subst₂ (IsGap q first second) here_is there_is
@@ -170,6 +177,7 @@ module _ (q : Quadrant) (first second : Chain) where
           (subst₂ (λ (r u : Reached). IsStopBetween q first second budget r u stop) (sym at_place) (sym at_next) stopped)
 
 -- ---- how faults are told
+-- a light next direction between open neighbours whose solver is stopped is one that isn't solved
 pub unsolved_next : (q : Quadrant) (first second : Chain) (budget place : ℕ) (rs : List Reached) (d : Direction) (fault : SolveFault) → AreOpenIn q first second rs place → IsNext q first second (reached rs place) (reached rs (suc place)) d → IsLight first second d
     → IsStopped (chain_of q first second d) budget fault → is_memory fault ≡ false → IsUnsolved q first second budget rs d fault
 unsolved_next q first second budget place rs d fault opened next light stopped told = record { due = due rs opened next; light = light; told = told; stopped = stopped }

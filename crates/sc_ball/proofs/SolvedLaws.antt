@@ -118,6 +118,7 @@ module _ (q : Quadrant) (first second : Chain) (is_first : IsChain first) (is_se
         scale_above : (z : ℤ) → pos 1 ≤ℤ z → pos 0 <ℤ z
         scale_above z h = omega (arith, ints)
 
+    -- a least solution of the chain of a direction solves the direction
     pub solved_is : (c : Chain) (budget : ℕ) → c ≡ chain → IsSolution c budget s → IsLeast c s.n s.fatgraph.sides → IsSolvedIn q first second solved
     solved_is c budget is solution least =
         solved_by budget (subst (λ (k : Chain). IsSolution k budget s) is solution) (subst (λ (k : Chain). IsLeast k s.n s.fatgraph.sides) is least)

@@ -303,6 +303,7 @@ pub(crate) fn half_of(
     }
     match arc {
         Some(arc) => finished(arc),
+        // A search has entries.
         None => unreachable!(),
     }
 }

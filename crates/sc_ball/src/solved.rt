@@ -28,6 +28,7 @@ pub(crate) struct Solved {
 pub(crate) fn check_chain(chain: &Chain)
     ensures { IsSmallChain chain.now }
 {
+    // The call is for its contract alone: by it the prover knows what the chain's invariant says.
     let _words = chain.words();
 }
 
@@ -36,6 +37,7 @@ fn check_solution(solution: &Solution)
     ensures surface { IsSurface solution.now.fatgraph }
     ensures list { IsSmallList solution.now.list }
 {
+    // For their contracts alone, as in `check_chain`.
     let _copies = solution.fatgraph.copies();
     let _scale = solution.list.scale();
 }

@@ -65,6 +65,7 @@ pub gap_in_fours : (x s y t : ℤ) → x *ℤ (pos 4 *ℤ s) -ℤ y *ℤ (pos 4 
 gap_in_fours x s y t =
     ap₂ (λ (u v : ℤ). x *ℤ u -ℤ y *ℤ v) (four s) (four t) ∙ in_fours x s y t ∙ sym (four (x *ℤ s -ℤ y *ℤ t))
 
+-- what balances still does with 4 times both numbers
 pub four_across : (c e x y : ℤ) → c *ℤ y ≡ e *ℤ x → c *ℤ (pos 4 *ℤ y) ≡ e *ℤ (pos 4 *ℤ x)
 four_across c e x y same = out c y ∙ ap (λ (z : ℤ). pos 4 *ℤ z) same ∙ sym (out e x)
   where

@@ -45,6 +45,7 @@ scaled_within : (k : ℕ) (c : Chain) → IsChain c → (w : ℕ) → w < length
 scaled_within k c chain w inside = mul-le-mul_left k (weight_within c chain.words w inside)
 
 module _ (first second : Chain) (d : Direction) (light : IsLight first second d) where
+  -- the weights in the chain of a light direction have 32 bits
   pub first_fits : IsChain first → (w : ℕ) → w < length first → unsigned_abs d.s * weight first w < 2 ^ 32
   first_fits chain w inside =
       omega (arith, scaled_within (unsigned_abs d.s) first chain w inside, light)
@@ -89,6 +90,7 @@ have_second Upper second h = h
 have_from : (c : Chain) → AreGenerators c → HaveGenerators c
 have_from c h w inside = All-from_get_or IsGenerator (word c w) no_letter (λ k below. h w k inside below)
 
+-- the letters of a direction's chain are those of generators
 pub generators_at : (q : Quadrant) (first second : Chain) (d : Direction) → IsSmallChain first → IsSmallChain second → AreGenerators (chain_of q first second d)
 generators_at q first second d small_first small_second w k inside below =
     have_both (times (unsigned_abs d.s) first) (times (unsigned_abs d.t) (second_words q second))
@@ -128,6 +130,7 @@ module _ (q : Quadrant) (first second : Chain) (d : Direction) where
   abbrev some_second : Chain
   some_second = times (unsigned_abs d.t) (second_words q second)
 
+  -- a direction's chain has the words of both chains, and so the positions of both
   pub words_at : length (chain_of q first second d) ≡ length first + length second
   words_at =
       let both : length (some_first ++ some_second) ≡ length some_first + length some_second = length-append some_first some_second in
@@ -139,6 +142,7 @@ module _ (q : Quadrant) (first second : Chain) (d : Direction) where
       omega (arith, both, positions_times (unsigned_abs d.s) first, positions_times (unsigned_abs d.t) (second_words q second), positions_second q second)
 
   module _ (small_first : IsSmallChain first) (small_second : IsSmallChain second) (few_words : length first + length second ≤ MAX_WORDS) (few_positions : positions first + positions second ≤ MAX_POSITIONS) (light : IsLight first second d) where
+    -- the chain of a light direction is accepted, where both chains together are within the limits
     pub accepted_at : IsAccepted (chain_of q first second d)
     accepted_at =
         let chain : IsChain (chain_of q first second d) = is_chain q first second d small_first.chain small_second.chain in

@@ -26,6 +26,7 @@ use Rattle.sc_crossing.proofs.Sizes.{weighted_size, sum_size, difference_size, s
 
 -- ---- a word's price
 
+-- a price and a scale are no larger than the greatest price
 pub price_size : (z : ℤ) → IsPriceInRange z → IsWithinPrices 1 z
 price_size z h = omega (arith, ints, h.low, h.high)
 
@@ -39,6 +40,7 @@ some_letters c w chain inside = nonempty (word c w) (chain.words w inside)
     nonempty [] h = absurd (h refl)
     nonempty (l ∷ u) h = omega arith
 
+-- the weight of a word times a price is no larger than weight times length of the greatest prices, and fits
 pub weighted : (c : Chain) (w : ℕ) (z : ℤ) → IsChain c → w < length c → IsPriceInRange z → IsWithinPrices (weight c w * length (word c w)) (pos (weight c w) *ℤ z)
 weighted c w z chain inside price = weighted_size (weight c w) (length (word c w)) z (some_letters c w chain inside) (omega (arith, price_size z price))
 
@@ -57,6 +59,7 @@ weights_most c w = sum_by-take-le (λ (u : ℕ × Word). u.0 * length u.1) c w
 
 module _ (c : Chain) (w : ℕ) (x y : ℤ) (small : IsSmallChain c) (inside : w < length c)
     (before : IsWithinPrices (weighted_length (take w c)) x) (here : IsWithinPrices (weight c w * length (word c w)) y) where
+  -- the bound of one word more is no larger than the words' weighted length of the greatest prices, and fits
   pub total_more : IsWithinPrices (weighted_length (take (w + 1) c)) (x +ℤ y)
   total_more =
       subst (λ (k : ℕ). IsWithinPrices k (x +ℤ y)) (sym (weights_more c w inside))
@@ -65,6 +68,7 @@ module _ (c : Chain) (w : ℕ) (x y : ℤ) (small : IsSmallChain c) (inside : w 
   pub total_fits : FitsSigned w128 (x +ℤ y)
   total_fits = fits (weighted_length (take (w + 1) c)) (x +ℤ y) (omega (arith, weights_most c (w + 1), small.light)) total_more
 
+-- the next number added, a sum is that of one number more
 pub sum_more : (f : ℕ → ℤ) (w : ℕ) (x y : ℤ) → x ≡ sum_below f w → y ≡ f w → x +ℤ y ≡ sum_below f (w + 1)
 sum_more f w x y before here =
     ap (λ (z : ℤ). z +ℤ y) before ∙ ap (λ (z : ℤ). sum_below f w +ℤ z) here ∙ ap (sum_below f) (sym (add-one w))
@@ -113,6 +117,7 @@ module _ (c : Chain) (list : Prices) (k : ℕ) (d f b : ℤ) (small : IsSmallCha
   number_small =
       subst₂ (λ (x y : ℤ). IsWithinPrices (3 * weighted_length c) (x *ℤ y -ℤ pos 2 *ℤ b)) (sym d_is) (sym f_is) (form_size c list.scale b small scale total)
 
+-- the form of the words from the first on is the first chain's
 pub first_form_is : (first : Chain) (list : Prices) → form_from first list 0 ≡ first_form first list
 first_form_is first list = ap (λ (z : ℤ). list.scale *ℤ pos (weighted_length first) -ℤ pos 2 *ℤ z) same
   where
@@ -126,6 +131,7 @@ first_form_is first list = ap (λ (z : ℤ). list.scale *ℤ pos (weighted_lengt
 module _ (first second : Chain) (list : Prices) (d : Direction) (k : ℕ) (a f b g : ℤ)
     (a_is : a ≡ pos (unsigned_abs d.s)) (b_is : b ≡ pos (unsigned_abs d.t)) (k_is : k ≡ length first)
     (f_is : f ≡ form_from first list 0) (g_is : g ≡ form_from second list k) where
+  -- a direction's numbers times those of the list's form are the numerator of the list's value there
   pub value_is : (q : Quadrant) → a *ℤ f +ℤ b *ℤ g ≡ list_num (chain_of q first second d) list
   value_is q =
       ap₂ (λ (x y : ℤ). x *ℤ f +ℤ y *ℤ g) a_is b_is
@@ -136,6 +142,7 @@ module _ (first second : Chain) (list : Prices) (d : Direction) (k : ℕ) (a f b
 part_size : (k l : ℕ) (a f : ℤ) → a ≡ pos k → IsWithinPrices (3 * l) f → IsWithinPrices (k * (3 * l)) (a *ℤ f)
 part_size k l a f a_is small = subst (λ (x : ℤ). IsWithinPrices (k * (3 * l)) (x *ℤ f)) (sym a_is) (times_size k (3 * l) f small)
 
+-- each part of the value at a light direction fits, and so does their sum
 pub part_fits : (k l : ℕ) (a f : ℤ) → a ≡ pos k → k * l ≤ MAX_LENGTH → IsWithinPrices (3 * l) f → FitsSigned w128 (a *ℤ f)
 part_fits k l a f a_is light small = fits (k * (3 * l)) (a *ℤ f) (omega (arith, light)) (part_size k l a f a_is small)
 
@@ -144,6 +151,7 @@ parts_fit k l m n a f b g a_is b_is light small_f small_g =
     fits (k * (3 * l) + m * (3 * n)) (a *ℤ f +ℤ b *ℤ g) (omega (arith, light))
     (sum_size (k * (3 * l)) (m * (3 * n)) (a *ℤ f) (b *ℤ g) (part_size k l a f a_is small_f) (part_size m n b g b_is small_g))
 
+-- either part of the length of a light direction's chain is within the limit
 pub first_light : (k l m n : ℕ) → k * l + m * n ≤ MAX_LENGTH → k * l ≤ MAX_LENGTH
 first_light k l m n light = omega (arith, light)
 

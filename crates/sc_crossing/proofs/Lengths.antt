@@ -9,6 +9,7 @@ use Rattle.sc_cone.proofs.Forms.{length_by_form}
 use Rattle.sc_crossing.specs.Lengths.{IsLight}
 
 module _ (q : Quadrant) (first second : Chain) (d : Direction) where
+  -- a direction is light exactly where its chain is no longer than a chain may be
   pub chain_light : IsLight first second d → weighted_length (chain_of q first second d) ≤ MAX_LENGTH
   chain_light light = subst (λ (n : ℕ). n ≤ MAX_LENGTH) (sym (length_by_form q first second d)) light
 

@@ -106,6 +106,7 @@ module _ (q : Quadrant) (first second : Chain) (r u : Reached) (f g : Form) (is_
       primitive : IsPrimitive x
       primitive = subst₂ (λ (m n : ℕ). IsGcd m n 1) (sym (ap unsigned_abs s_is)) (sym t_is) c.reduced
 
+      -- the crossing is the next direction between two neighbours that are no ends of the quadrant
       pub crossing_next : IsInside r.direction → IsInside u.direction → IsNext q first second r u x
       crossing_next in_r in_u = record {
         within = within;

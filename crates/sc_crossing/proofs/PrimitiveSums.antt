@@ -31,6 +31,7 @@ some_divisor d e g left gcd =
 
 module _ (d e : Direction) (g : ℕ) (s t : ℤ) (some : 0 < g) (gcd : IsGcd (unsigned_abs (d.s +ℤ e.s)) (unsigned_abs (d.t +ℤ e.t)) g)
     (exact_s : pos g *ℤ s ≡ d.s +ℤ e.s) (exact_t : pos g *ℤ t ≡ d.t +ℤ e.t) where
+  -- the sum over its greatest common divisor is primitive, and is in the direction of the sum
   pub sum_primitive : IsPrimitive (record { s = s; t = t })
   sum_primitive = divided_coprime (d.s +ℤ e.s) (d.t +ℤ e.t) s t g some exact_s exact_t gcd
 
@@ -89,6 +90,7 @@ module _ (d e : Direction) (x y z w : ℤ) (g : ℕ)
   divisor : IsGcd (unsigned_abs (d.s +ℤ e.s)) (unsigned_abs (d.t +ℤ e.t)) g
   divisor = subst₂ (λ (u v : ℤ). IsGcd (unsigned_abs u) (unsigned_abs v) g) first_sum second_sum gcd
 
+  -- the same by the numbers of 64 bits that the code has
   pub divisor_above : 0 < g
   divisor_above = some_divisor d e g left divisor
 

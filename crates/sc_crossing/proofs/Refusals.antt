@@ -18,6 +18,7 @@ not_all [] w first fit = first
 not_all (s ∷ steps) w (inl here) fit = here.0 fit.0
 not_all (s ∷ steps) w (inr later) fit = not_all steps w later.1 fit.1
 
+-- where the difference of two fractions fits, no operation of it is too wide
 pub no_difference : (x y : Frac) (w : WideNumber) → ForSum Sub x y (λ steps. IsFirstWide steps w) → HasDifference x y → ⊥
 no_difference x y w first fit =
     let g = gcd_exists (unsigned_abs (denominator x)) (unsigned_abs (denominator y)) in
@@ -29,6 +30,7 @@ no_ratio_by x y w first fit =
     let h = gcd_exists (unsigned_abs (denominator y)) (unsigned_abs (denominator x)) in
     not_all (ratio_steps (numerator x) (denominator x) (numerator y) (denominator y) g.0 h.0) w (first g.0 h.0 g.1 h.1) (fit g.0 h.0 g.1 h.1)
 
+-- where the ratio of two fractions fits and the second one isn't 0, it isn't refused
 pub no_ratio : (x y : Frac) (fault : FracFault) → numerator y ≢ pos 0 → (◌≡◌ {A = Result Frac FracFault} (Err fault) (Err Zero) ↔ (numerator y ≡ pos 0))
     → IfWide fault (λ w. ForRatio x y (λ steps. IsFirstWide steps w)) → HasRatio x y → ⊥
 no_ratio x y Zero nonzero zero evidence fit = nonzero (zero.0 refl)
@@ -44,6 +46,7 @@ never_wide num (pos n) w some first =
     not_turned (int_div num (pos g.0)) (n / g.0) w (first g.0 g.1)
 never_wide num (negsuc n) w some first = absurd (omega (arith, ints))
 
+-- a fraction over a number above 0 isn't refused
 pub never_refused : (num den : ℤ) (fault : FracFault) → pos 0 <ℤ den → (◌≡◌ {A = Result Frac FracFault} (Err fault) (Err Zero) ↔ (den ≡ pos 0))
     → IfWide fault (λ w. ForReduced num den (λ steps. IsFirstWide steps w)) → ⊥
 never_refused num den Zero some zero evidence = absurd (omega (arith, ints, some, zero.0 refl))

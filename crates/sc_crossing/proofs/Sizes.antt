@@ -11,6 +11,8 @@ at_least : (w k : ℕ) → 1 ≤ k → w ≤ w * k
 at_least w zero h = absurd (omega arith)
 at_least w (suc k) h = omega arith
 
+-- how many of the greatest prices a number is at most in size: a weight times a price, sums, differences,
+-- a scale times a length; and at most 2^32 of them fit
 pub weighted_size : (w k : ℕ) (z : ℤ) → 1 ≤ k → unsigned_abs z ≤ most_price → unsigned_abs (pos w *ℤ z) ≤ (w * k) * most_price
 weighted_size w k z some small =
     let price : w * unsigned_abs z ≤ w * most_price = mul-le-mul_left w small in

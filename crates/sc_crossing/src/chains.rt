@@ -16,6 +16,7 @@ use std::alloc::{AllocError, Global};
 pub(crate) fn check_chain(chain: &Chain)
     ensures { IsSmallChain chain.now }
 {
+    // The call is for its contract alone: by it the prover knows what the chain's invariant says.
     let _words = chain.words();
 }
 
@@ -112,6 +113,7 @@ pub fn chain_at(
         Ok(chain) => Ok(chain),
         Err(fault) => match fault {
             ChainFault::Memory => Err(AllocError),
+            // The words are those of two chains within the limits together, and the direction is light.
             _ => unreachable!(),
         },
     }

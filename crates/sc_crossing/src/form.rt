@@ -27,6 +27,7 @@ fn fraction(num: i128, den: i128) -> Frac
 {
     match Frac::new(num, den) {
         Ok(fraction) => fraction,
+        // The number below is above 0: it isn't 0, and no sign is turned, which alone might not fit.
         Err(_) => unreachable!(),
     }
 }

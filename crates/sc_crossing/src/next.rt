@@ -48,6 +48,7 @@ fn are_inside(from: Direction, to: Direction) -> bool
 fn check_list(list: &PriceList)
     ensures { IsSmallList list.now }
 {
+    // For its contract alone, as in `check_chain`.
     let _scale = list.scale();
 }
 

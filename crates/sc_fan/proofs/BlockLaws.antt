@@ -35,6 +35,7 @@ module _ {V : Type 0} (name : List ℕ) (low high : ℕ) (count : V → ℕ) (li
         in_range = record { counted = subst (IsCountInRange low high) (sym n_is) range; in_range = subst (λ (n : ℕ). InV n v) (sym n_is) within };
       }
 
+  -- a number and behind it the lines that it counts are lawful, where such lines are lawful for each number
   pub lawful_headed : lacks 32 name ≡ true → ((n : ℕ) → lacks 10 (count_line name n) ≡ true) → ((n : ℕ) → IsCountInRange low high n → IsLawful (lines n) (rest n) (InV n) m) → ((n : ℕ) (v : V) → InV n v → count v ≡ n)
       → IsLawful headed_lines (headed_due name low high rest) IsHeaded (suc m)
   lawful_headed named unended law counts =
@@ -98,6 +99,7 @@ module _ {A : Type 0} (lines : List A → A → List Line) (block : List A → F
     pub count : length xs ≡ n
     pub in_range : AllAfter InRange [] xs
 
+  -- n blocks one after another are lawful, where a block is, whatever blocks stand before it
   pub lawful_blocks : (n most : ℕ) → n * m ≤ most → IsLawful (blocks_lines lines []) (blocks_due block n []) (AreBlocks n) most
   lawful_blocks n most few = record {
     reads = λ xs h. subst (λ (k : ℕ). Reads (blocks_due block k []) (blocks_lines lines [] xs) (told xs)) h.count (reads_blocks [] xs h.in_range);

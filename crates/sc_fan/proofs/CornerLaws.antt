@@ -27,6 +27,7 @@ use Rattle.sc_fan.specs.Corners.{corner_line, is_direction, or_range, corner_fau
 
 -- ---- the value
 
+-- a fraction in lowest terms whose numbers are in their ranges may be the value of a corner
 pub value_in_range : (v : Frac) (n d : ℕ) → numerator v ≡ pos n → denominator v ≡ pos d → n ≤ MAX_VALUE → 1 ≤ d → d ≤ MAX_VALUE → IsCornerValue (quotient_of v)
 value_in_range v n d num den n_high d_low d_high = record {
   num_low = subst (λ (t : ℤ). pos 0 ≤ℤ t) (sym num) (omega (arith, ints));
@@ -36,6 +37,7 @@ value_in_range v n d num den n_high d_low d_high = record {
   lowest = v.reduced;
 }
 
+-- the field of a value in its range has no fault
 pub good_quotient : (v : Quotient) → IsCornerValue v → corner_value_fault (quotient_text v.0 v.1) ≡ None
 good_quotient v h =
     rw (halves-quotient_text v.0 v.1, number_of-spelling v.0, number_of-spelling v.1, in_range_test (pos 0) (pos MAX_VALUE) v.0 h.num_low h.num_high, in_range_test (pos 1) (pos MAX_VALUE) v.1 h.den_low h.den_high, coprime_test (unsigned_abs v.0) (unsigned_abs v.1) h.lowest) refl
@@ -82,6 +84,7 @@ value_from f (a ∷ b ∷ c ∷ more) e h = absurd (none-some Form (sym h))
 
 -- ---- the direction
 
+-- two numbers that the line of a corner may have as its direction
 pub record IsDirection (s t : ℤ) : Type 0 where
   pub s_low : pos 0 ≤ℤ s
   pub s_high : s ≤ℤ MAX_DIRECTION
@@ -89,6 +92,7 @@ pub record IsDirection (s t : ℤ) : Type 0 where
   pub t_high : t ≤ℤ MAX_DIRECTION
   pub somewhere : 0 < unsigned_abs s + unsigned_abs t
 
+-- the test passes exactly where two numbers are such a direction
 pub direction_test : (s t : ℤ) → IsDirection s t → is_direction s t ≡ true
 direction_test s t h =
     and_from (from_to (pos 0) MAX_DIRECTION s && from_to (neg_ℤ MAX_DIRECTION) MAX_DIRECTION t) (nat_lt 0 (unsigned_abs s + unsigned_abs t))
@@ -111,6 +115,7 @@ direction_from_test s t h =
 
 -- ---- the line
 
+-- the fields of a corner's line: its name, the direction's numbers and the value
 pub fields-corner_line : (c : PlaneCorner) → fields (corner_line c) ≡ codes "corner" ∷ spelling c.direction.s ∷ spelling c.direction.t ∷ quotient_text c.value.0 c.value.1 ∷ []
 fields-corner_line c =
     fields-spaced (codes "corner") (spelling c.direction.s ∷ spelling c.direction.t ∷ quotient_text c.value.0 c.value.1 ∷ [])
@@ -157,6 +162,7 @@ corner_inverse line h =
     let named = named_inverse (codes "corner") corner_fields_fault line h in
     corner_of_fields line named.rest named.fields named.good
 
+-- the lines of corners are a kind of line: without a fault exactly where they are of a corner in its range
 pub corner_kind : IsLineKind corner_row corner_in corner_line IsCornerInRange
 corner_kind = kind_from corner_row corner_in corner_line IsCornerInRange good_corner (λ c in_range. corner_in-corner_line c) corner_inverse
 
@@ -167,9 +173,11 @@ lacks-corner_line c =
 
 -- ---- the fault of a line by its parts
 
+-- a line with two numbers that are no direction has the fault `Range`
 pub direction_outside : (line : Line) (f g v : Field) (s t : ℤ) → fields line ≡ codes "corner" ∷ f ∷ g ∷ v ∷ [] → number_of f ≡ Some s → number_of g ≡ Some t → corner_value_fault v ≡ None → is_direction s t ≡ false → corner_row line ≡ Some Range
 direction_outside line f g v s t e m n good outside = named_is (codes "corner") corner_fields_fault line _ e ∙ rw (m, n, outside, good) refl
 
+-- a line with two numbers has the fault of its value, where that has one
 pub value_bad : (line : Line) (f g v : Field) (s t : ℤ) (k : Kind) → fields line ≡ codes "corner" ∷ f ∷ g ∷ v ∷ [] → number_of f ≡ Some s → number_of g ≡ Some t → corner_value_fault v ≡ Some k → corner_row line ≡ Some k
 value_bad line f g v s t k e m n bad = elim (cases_Bool (is_direction s t)) [
   | inl inside ↦ named_is (codes "corner") corner_fields_fault line _ e ∙ rw (m, n, inside) bad

@@ -104,6 +104,7 @@ words_of most before (w ∷ c) h few =
     let below = rest.few in
     record { words = (h.0.in_range, rest.words); few = omega arith }
 
+-- the lines of a chain under a name are lawful: they tell the chains of so many words and letters at most
 pub lawful_chain : (name : List ℕ) (words letters : ℕ) → lacks 32 name ≡ true → lacks 10 name ≡ true → IsLawful (chain_lines name) (chain_due name words letters) (IsChainFor words letters) (suc words)
 lawful_chain name words letters named unended =
     let Range : Chain → ℕ × Word → Type 0 = λ b. FitsIn (letters - positions b) in
@@ -121,6 +122,7 @@ positions-inverses : (c : Chain) → positions (inverses c) ≡ positions c
 positions-inverses [] = refl
 positions-inverses (w ∷ c) = omega (arith, positions-cons w c, positions-cons (w.0, inverse_word w.1) (inverses c), length-inverse_word w.1, positions-inverses c)
 
+-- the chain of a quadrant has the words of both chains, and so the positions of both
 pub length-quadrant : (q : Quadrant) (a b : Chain) → length (quadrant_chain q a b) ≡ length a + length b
 length-quadrant Lower a b = length-append a (inverses b) ∙ ap (λ (n : ℕ). length a + n) (length-map b (λ (w : ℕ × Word). (w.0, inverse_word w.1)))
 length-quadrant Upper a b = length-append a b
@@ -131,6 +133,7 @@ positions-quadrant Upper a b = sum_by-append (λ (w : ℕ × Word). length w.1) 
 
 -- ---- price lists
 
+-- the line of a scale is lawful
 pub lawful_scale : IsLawful scale_form.lines (scale_form.due None) IsScaleInRange 1
 lawful_scale = lawful_one a_scale IsScaleInRange scale_kind (λ d. lacks-numbers_line (codes "scale") (d ∷ []) refl)
 
@@ -177,6 +180,7 @@ module _ (c : Chain) (few_words : length c ≤ MAX_WORDS) (few_letters : positio
       let prices = pair_lines_are (pairs c) [] (pairs c) [] list.pair refl refl h.counts.pair in
       λ i. scale_line list.scale ∷ (bases i ++ prices i)
 
+  -- the lines of a price list for the chain are lawful
   pub lawful_list : IsLawful (list_lines c) (list_due c) (IsListFor c) (list_most + 0)
   lawful_list =
       lawful_same (λ list. parts_lines (told_list list)) (list_lines c) (list_due c) (IsListFor c) (list_most + 0)
@@ -193,6 +197,7 @@ pub record AreCorners (corners : List PlaneCorner) : Type 0 where
   pub few : length corners ≤ MAX_CORNERS
   pub all : AllByRecursion IsCornerInRange corners
 
+-- the lines of corners, with their number, are lawful
 pub lawful_corners : IsLawful corners_lines corners_due AreCorners (suc MAX_CORNERS)
 lawful_corners =
     let kinds : List PlaneCorner → LineKind PlaneCorner = λ before. a_corner in
@@ -250,6 +255,7 @@ module _ (a b : Chain) (few_words : length a + length b ≤ MAX_WORDS) (few_lett
   abbrev how_many : ℕ
   how_many = length corners - 1
 
+  -- the lines of the edges of these corners are lawful
   pub lawful_edges : length corners ≤ MAX_CORNERS → IsLawful (edges_lines a b corners) (edges_due a b corners) (AreEdges a b corners) (suc (MAX_CORNERS * edge_most))
   lawful_edges few =
       let law : (before : List Prices) → IsLawful (lines_of before) (due_of before) (range_of before) edge_most = λ before. lawful_edge (length before) in
@@ -368,6 +374,7 @@ pub then_assoc : {A B V : Type 0} (f : Format A) (g : A → Format B) (h : B →
 then_assoc (told x) g h = refl
 then_assoc (a_line fault next) g h = λ i. a_line fault (λ line. then_assoc (next line) g h i)
 
+-- what follows two formats that are read as one follows the second, which follows the first
 pub both_flat : {A B V : Type 0} (f : Format A) (r : A → Format B) (h : Both A B → Format V) → and_then (both_due f r) h ≡ and_then f (λ x. and_then (r x) (λ y. h (and_also x y)))
 both_flat f r h = then_assoc f (λ x. and_then (r x) (λ y. told (and_also x y))) h ∙ (λ i. and_then f (λ x. then_assoc (r x) (λ y. told (and_also x y)) h i))
 
@@ -393,5 +400,6 @@ flat_first =
 due_is : and_then all_due (λ t. told (fan_told t)) ≡ fan_due
 due_is = both_flat (literal_due heading false) (λ u. from_first) (λ t. told (fan_told t)) ∙ (λ i. and_then (literal_due heading false) (λ u. flat_first i))
 
+-- the lines of a fan are lawful: they tell the fans in range
 pub lawful_fan : IsLawful fan_lines fan_due IsFanInRange all_lines
 lawful_fan = subst (λ (d : Format FanSaid). IsLawful fan_lines d IsFanInRange all_lines) due_is (lawful_as _ _ IsToldFor told_most fan_told told_fan IsFanInRange lawful_told (λ v. refl) (λ w. refl) fan_in_range in_range_told)

@@ -63,6 +63,7 @@ quadrant_words : (q : Quadrant) (a b : Chain) → AllByRecursion IsWordInRange a
 quadrant_words Lower a b h k = all_append IsWordInRange a (inverses b) h (inverses_in_range b k)
 quadrant_words Upper a b h k = all_append IsWordInRange a b h k
 
+-- words in their range, within the limits together, are a chain in its range in either quadrant
 pub quadrant_words_in_range : (a b : Chain) (q : Quadrant) → AllByRecursion IsWordInRange a → AllByRecursion IsWordInRange b → length a + length b ≤ MAX_WORDS → positions a + positions b ≤ MAX_POSITIONS → IsChainInRange (quadrant_chain q a b)
 quadrant_words_in_range a b q h k few_words few_letters = record {
   count = subst (λ (n : ℕ). n ≤ MAX_WORDS) (sym (length-quadrant q a b)) few_words;
@@ -70,6 +71,7 @@ quadrant_words_in_range a b q h k few_words few_letters = record {
   letters = subst (λ (n : ℕ). n ≤ MAX_POSITIONS) (sym (positions-quadrant q a b)) few_letters;
 }
 
+-- so a fan in its range has chains in their ranges in both quadrants
 pub quadrant_in_range : (v : FanSaid) (q : Quadrant) → IsFanInRange v → IsChainInRange (quadrant_chain q v.first v.second)
 quadrant_in_range v q h = quadrant_words_in_range v.first v.second q h.first h.second h.few_words h.few_letters
 
@@ -79,6 +81,7 @@ each_letters : (c : Chain) → AllByRecursion IsWordInRange c → AllByRecursion
 each_letters [] h = tt
 each_letters (w ∷ c) h = (All-from_recursion IsGenerator w.1 h.0.letters, each_letters c h.1)
 
+-- the letters of words in their range are those of generators
 pub spellable : (c : Chain) → AllByRecursion IsWordInRange c → All (λ w. All IsGenerator w.1) c
 spellable c h = All-from_recursion (λ (w : ℕ × Word). All IsGenerator w.1) c (each_letters c h)
 
@@ -91,6 +94,7 @@ module _ (a b : Chain) (corners : List Corner) where
   lists_fit n (e ∷ edges) h =
       (h.0.counts.pair ∙ ap (λ (ps : Pairs). length ps) (pairs_of_quadrant (quadrant_at (map corner_said corners) n) a b), lists_fit (n + 1) edges h.1)
 
+-- a fan in its range has edges at its corners, with lists that fit the pairs of their quadrants
 pub edges_in_range : (f : Fan) → IsFanInRange (fan_said f) → AreEdgesOf (pairs (quadrant_chain Upper f.first f.second)) (pairs (quadrant_chain Lower f.first f.second)) f.corners.items f.edges.items
 edges_in_range f h =
     let few = h.one_fewer in
@@ -105,6 +109,7 @@ edges_in_range f h =
 pub corner_at : (corners : List Corner) (i : ℕ) (corner : Corner) → i < length corners → corner ≡ get_or corners i corner → corner_said corner ≡ get_or (map corner_said corners) i no_corner
 corner_at corners i corner below is = ap corner_said is ∙ sym (get_or-map corner_said corners i corner no_corner below)
 
+-- the pairs of an edge's chain are those of the quadrant of the corner that the edge goes from
 pub pairs_at : (upper lower : Pairs) (corners : List Corner) (i : ℕ) (corner : Corner) (ps : Pairs) → i < length corners → corner ≡ get_or corners i corner → ps ≡ pairs_in (quadrant_from corner.direction.t) upper lower → ps ≡ edge_pairs upper lower corners i
 pairs_at upper lower corners i corner ps below is ps_is = ps_is ∙ ap (λ (c : PlaneCorner). pairs_in (quadrant_from c.direction.t) upper lower) (corner_at corners i corner below is)
 
@@ -121,26 +126,31 @@ module _ (upper lower : Pairs) (corners : List Corner) (edges : List Edge) (i : 
   there : i < length (enumerate_from 0 edges)
   there = omega (arith, inside, length-enumerate_from 0 edges)
 
+  -- what is printed for the edge number i is its piece
   pub piece_is : edge_text ps i edge.list ≡ edge_piece upper lower corners (get_or (enumerate_from 0 edges) i (0, edge))
   piece_is = ap (λ (qs : Pairs). edge_text qs i edge.list) pairs_are ∙ ap (edge_piece upper lower corners) (sym at)
 
+  -- its list has a price for each pair
   pub fits : AreEdgesOf upper lower corners edges → length edge.list.pair ≡ length ps
   fits h =
       subst (λ (e : ℕ × Edge). length e.1.list.pair ≡ length (edge_pairs upper lower corners e.0)) at (h.fit i (0, edge) there)
       ∙ ap (λ (qs : Pairs). length qs) (sym pairs_are)
 
+  -- with it the pieces up to i become those up to i + 1
   pub piece_more : (old mid new : List ℕ) → mid ≡ old ++ flat_map (edge_piece upper lower corners) (take i (enumerate_from 0 edges)) → new ≡ mid ++ edge_text ps i edge.list
       → new ≡ old ++ flat_map (edge_piece upper lower corners) (take (i + 1) (enumerate_from 0 edges))
   piece_more old mid new before here =
       here ∙ ap (λ (t : List ℕ). mid ++ t) piece_is ∙ ap (λ (t : List ℕ). t ++ edge_piece upper lower corners (get_or (enumerate_from 0 edges) i (0, edge))) before
       ∙ pieces_more (edge_piece upper lower corners) old (enumerate_from 0 edges) i (0, edge) there
 
+  -- a part of it behind the pieces before is a part of the text of the edges
   pub piece_part : (old mid new : List ℕ) → mid ≡ old ++ flat_map (edge_piece upper lower corners) (take i (enumerate_from 0 edges)) → AppendsPart mid new (edge_text ps i edge.list) → AppendsPart old new (edges_text upper lower corners edges)
   piece_part old mid new before part =
       part_after old mid new (flat_map (edge_piece upper lower corners) (take i (enumerate_from 0 edges))) (edge_piece upper lower corners (get_or (enumerate_from 0 edges) i (0, edge)))
       (flat_map (edge_piece upper lower corners) (drop (i + 1) (enumerate_from 0 edges))) (edges_text upper lower corners edges) before
       (subst (AppendsPart mid new) piece_is part) (pieces_at (edge_piece upper lower corners) (enumerate_from 0 edges) i (0, edge) there)
 
+-- after the last edge the pieces are the text of the edges
 pub pieces_done : (upper lower : Pairs) (corners : List Corner) (edges : List Edge) (i : ℕ) (old mid : List ℕ) → length edges ≤ i → mid ≡ old ++ flat_map (edge_piece upper lower corners) (take i (enumerate_from 0 edges)) → mid ≡ old ++ edges_text upper lower corners edges
 pieces_done upper lower corners edges i old mid past before =
     before ∙ ap (λ es. old ++ flat_map (edge_piece upper lower corners) es) (take_all i (enumerate_from 0 edges) (omega (arith, past, length-enumerate_from 0 edges)))

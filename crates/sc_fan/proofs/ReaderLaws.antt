@@ -63,6 +63,7 @@ module _ {A : Type 0} (kind : List A → LineKind A) (n : ℕ) (s : LinesLeft) w
       let count = h.count in
       h.same ∙ ap (λ (f : Format (List A)). taken f t) (many_more kind n xs (omega arith))
 
+  -- one more line is taken, behind the values of those before
   pub more_items : (xs : List A) (t u : LinesLeft) (i : ℕ) (x : A) → AreItems xs t i → i < n → taken (one_due (kind xs) None) t ≡ Ok (x, u) → AreItems (xs ++ x ∷ []) u (i + 1)
   more_items xs t u i x h more e =
       let count = h.count in
@@ -74,10 +75,12 @@ module _ {A : Type 0} (kind : List A → LineKind A) (n : ℕ) (s : LinesLeft) w
   pub pushed_items : (xs ys : List A) (t u : LinesLeft) (i : ℕ) (x : A) → AreItems xs t i → i < n → ys ≡ xs ++ x ∷ [] → taken (one_due (kind xs) None) t ≡ Ok (x, u) → AreItems ys u (i + 1)
   pushed_items xs ys t u i x h more new e = subst (λ (zs : List A). AreItems zs u (i + 1)) (sym new) (more_items xs t u i x h more e)
 
+  -- where the next line fails, all of them fail
   pub item_fails : (xs : List A) (t : LinesLeft) (i : ℕ) (e : TextFault) → AreItems xs t i → i < n → Fails e (taken (one_due (kind xs) None) t) → Fails e (taken (many_due kind n []) s)
   item_fails xs t i e h more bad =
       fails_on (taken (many_due kind n []) s) (one_due (kind xs) None) (λ y. many_due kind n (xs ++ y ∷ [])) t (next_item xs t i h more) e bad
 
+  -- after n lines all of them are taken
   pub all_items : (xs : List A) (t : LinesLeft) (i : ℕ) → AreItems xs t i → n ≤ i → taken (many_due kind n []) s ≡ Ok (xs, t)
   all_items xs t i h all =
       let count = h.count in
@@ -89,6 +92,7 @@ edge_line_is n z line e low high =
     let same : z ≡ pos n = omega (arith, ints, low, high) in
     e ∙ ap (λ (y : ℤ). numbers_line (codes "edge") (y ∷ [])) same
 
+-- the line of an edge is taken where its number is the one that is due
 pub edge_taken : (s t : LinesLeft) (k n : ℕ) (z : ℤ) (line : Line) → IsNext s t k line → line ≡ numbers_line (codes "edge") (z ∷ []) → pos n ≤ℤ z → z ≤ℤ pos n → taken (literal_due (edge_line n) false) s ≡ Ok (tt, t)
 edge_taken s t k n z line h e low high = literal_taken (edge_line n) s t k line h (edge_line_is n z line e low high)
 
@@ -102,12 +106,14 @@ other_line n k line bad =
       | inr other ↦ rw other refl
     ]
 
+-- any other line in its place has the fault `Form`
 pub edge_fails : (s t : LinesLeft) (m n : ℕ) (k : Kind) (line : Line) → IsNext s t m line → numbers_line_fault (codes "edge") (between n n ∷ []) line ≡ Some k → taken (literal_due (edge_line n) false) s ≡ Err (m, Form)
 edge_fails s t m n k line h bad = literal_fails (edge_line n) s t m line (line_faults.Malformed Form) h (other_line n k line bad)
 
 -- ---- blocks, one after another
 
 module _ {A : Type 0} (block : List A → Format A) (n : ℕ) (s : LinesLeft) where
+  -- i of the blocks were taken
   pub record AreBlocksTo (xs : List A) (t : LinesLeft) (i : ℕ) : Type 0 where
     pub same : taken (blocks_due block n []) s ≡ taken (blocks_due block (n - i) xs) t
     pub count : length xs ≡ i
@@ -120,6 +126,7 @@ module _ {A : Type 0} (block : List A → Format A) (n : ℕ) (s : LinesLeft) wh
       let one : n - i ≡ suc (n - (i + 1)) = omega arith in
       h.same ∙ ap (λ (k : ℕ). taken (blocks_due block k xs) t) one
 
+  -- one more block is taken, behind the values of those before
   pub more_blocks : (xs : List A) (t u : LinesLeft) (i : ℕ) (x : A) → AreBlocksTo xs t i → i < n → taken (block xs) t ≡ Ok (x, u) → AreBlocksTo (xs ++ x ∷ []) u (i + 1)
   more_blocks xs t u i x h more e =
       let count = h.count in
@@ -128,10 +135,12 @@ module _ {A : Type 0} (block : List A → Format A) (n : ℕ) (s : LinesLeft) wh
         count = omega (arith, length_push xs x);
       }
 
+  -- where the next block fails, all of them fail
   pub block_fails : (xs : List A) (t : LinesLeft) (i : ℕ) (e : TextFault) → AreBlocksTo xs t i → i < n → Fails e (taken (block xs) t) → Fails e (taken (blocks_due block n []) s)
   block_fails xs t i e h more bad =
       fails_on (taken (blocks_due block n []) s) (block xs) (λ y. blocks_due block (n - (i + 1)) (xs ++ y ∷ [])) t (next_block xs t i h more) e bad
 
+  -- after n blocks all of them are taken
   pub all_blocks : (xs : List A) (t : LinesLeft) (i : ℕ) → AreBlocksTo xs t i → n ≤ i → taken (blocks_due block n []) s ≡ Ok (xs, t)
   all_blocks xs t i h all =
       let none : n - i ≡ 0 = omega arith in
@@ -143,6 +152,7 @@ abbrev pub words_due : ℕ → ℕ → Format Chain
 words_due letters n = many_due (word_kinds letters) n []
 
 module _ (name : List ℕ) (words letters : ℕ) (s : LinesLeft) where
+  -- a chain fails where its count or its words fail, and else is taken with its words
   pub count_fails : (e : TextFault) → Fails e (taken (one_due (count_kind name 0 words) None) s) → Fails e (taken (chain_due name words letters) s)
   count_fails e h = fails_then (one_due (count_kind name 0 words) None) (words_due letters) s e h
 
@@ -153,9 +163,11 @@ module _ (name : List ℕ) (words letters : ℕ) (s : LinesLeft) where
     pub chain_taken : (c : Chain) (u : LinesLeft) → taken (words_due letters n) t ≡ Ok (c, u) → taken (chain_due name words letters) s ≡ Ok (c, u)
     chain_taken c u h = onward (one_due (count_kind name 0 words) None) (words_due letters) s t n counted ∙ h
 
+  -- a chain that was taken is within its limits
   pub chain_for : (c : Chain) (u : LinesLeft) → lacks 32 name ≡ true → lacks 10 name ≡ true → taken (chain_due name words letters) s ≡ Ok (c, u) → IsChainFor words letters c
   chain_for c u named unended h = in_range_of (chain_lines name) (chain_due name words letters) (IsChainFor words letters) (suc words) (lawful_chain name words letters named unended) s u c h
 
+-- a chain within limits that are no greater than those of all chains is in its range
 pub small_chain : (words letters : ℕ) (c : Chain) → words ≤ MAX_WORDS → letters ≤ MAX_POSITIONS → IsChainFor words letters c → IsChainInRange c
 small_chain words letters c few_words few_letters h =
     let count = h.count in
@@ -182,6 +194,7 @@ pair_prices_due d base ps = and_then (pairs_due ps) (λ pair. told (list_of d ba
 abbrev pub base_prices_due : ℕ → Pairs → ℤ → Format Prices
 base_prices_due words ps d = and_then (many_due (λ (b : List ℤ). a_base) words []) (λ base. pair_prices_due d base ps)
 
+-- a price list is its scale, and behind that its base prices and the prices of its pairs
 pub prices_flat : (words : ℕ) (ps : Pairs) → prices_due words ps ≡ and_then (one_due a_scale None) (base_prices_due words ps)
 prices_flat words ps =
     both_flat (one_due a_scale None) (λ d. both_due ((bases_form words).due []) (λ base. (pairs_form ps).due [])) (λ t. told (list_told t))
@@ -194,6 +207,7 @@ module _ (words : ℕ) (ps : Pairs) (s : LinesLeft) where
   list_starts : whole_list ≡ taken (and_then (one_due a_scale None) (base_prices_due words ps)) s
   list_starts = ap (λ (f : Format Prices). taken f s) (prices_flat words ps)
 
+  -- a price list fails where one of its three parts fails, and else is taken with them
   pub scale_stops : (e : TextFault) → Fails e (taken (one_due a_scale None) s) → Fails e whole_list
   scale_stops e h = fails_on whole_list (one_due a_scale None) (base_prices_due words ps) s list_starts e h
 
@@ -214,6 +228,7 @@ module _ (words : ℕ) (ps : Pairs) (s : LinesLeft) where
       pub list_taken : (pair : List ℤ) (v : LinesLeft) → taken (pairs_due ps) u ≡ Ok (pair, v) → whole_list ≡ Ok (list_of d base pair, v)
       list_taken pair v h = goes_on whole_list (pairs_due ps) (λ pair. told (list_of d base pair)) u bases_go_on v pair h ∙ told_taken (list_of d base pair) v
 
+-- what was taken of a price list, and so the whole list, is in its range
 pub scale_in_range : (s t : LinesLeft) (d : ℤ) → taken (one_due a_scale None) s ≡ Ok (d, t) → IsScaleInRange d
 scale_in_range s t d h = in_range_of _ (one_due a_scale None) IsScaleInRange 1 lawful_scale s t d h
 
@@ -239,6 +254,7 @@ abbrev pub corner_count : LineKind ℕ
 corner_count = count_kind (codes "corners") MIN_CORNERS MAX_CORNERS
 
 module _ (s : LinesLeft) where
+  -- the corners fail where their count or a line of them fails, and else are taken
   pub corner_count_stops : (e : TextFault) → Fails e (taken (one_due corner_count None) s) → Fails e (taken corners_due s)
   corner_count_stops e h = fails_then (one_due corner_count None) corner_rows s e h
 
@@ -249,9 +265,11 @@ module _ (s : LinesLeft) where
     pub corners_taken : (cs : List PlaneCorner) (u : LinesLeft) → taken (corner_rows n) t ≡ Ok (cs, u) → taken corners_due s ≡ Ok (cs, u)
     corners_taken cs u h = onward (one_due corner_count None) corner_rows s t n counted ∙ h
 
+-- corners that were taken are in their range, and so many as a fan may have
 pub corners_in_range : (s t : LinesLeft) (corners : List PlaneCorner) → taken corners_due s ≡ Ok (corners, t) → AreCorners corners
 corners_in_range s t corners h = in_range_of corners_lines corners_due AreCorners _ lawful_corners s t corners h
 
+-- one more corner is taken, and stands behind the others
 pub more_corners : (n : ℕ) (s : LinesLeft) (cs ds : List Corner) (t u : LinesLeft) (i : ℕ) (c : Corner) → AreItems (λ (b : List PlaneCorner). a_corner) n s (map corner_said cs) t i → i < n → ds ≡ cs ++ c ∷ []
     → taken (one_due a_corner None) t ≡ Ok (corner_said c, u) → AreItems (λ (b : List PlaneCorner). a_corner) n s (map corner_said ds) u (i + 1)
 more_corners n s cs ds t u i c h more new e =
@@ -272,6 +290,7 @@ module _ (a b : Chain) (corners : List Corner) where
       let q = quadrant_at (map corner_said corners) i in
       λ j. and_then (literal_due (edge_line i) false) (λ u. prices_due (length-quadrant q a b j) (pairs_of_quadrant q a b j))
 
+  -- what is due of the edges, by the pairs of the two quadrants
   pub edges_same : edges_due a b (map corner_said corners) ≡ edges_by (length a + length b) upper lower corners
   edges_same =
       λ j. headed_due (codes "edges") (length-map corners corner_said j - 1) (length-map corners corner_said j - 1) (λ n. blocks_due (λ before. edge_same (length before) j) n [])
@@ -319,6 +338,7 @@ module _ (words : ℕ) (upper lower : Pairs) (corners : List Corner) (s : LinesL
 
 -- ---- the ends of the edges
 
+-- the empty list is joined to the corners, and edges stay so with one more that goes from its corner to the next
 pub none_joined : (corners : List PlaneCorner) → AreJoinedTo corners []
 none_joined corners i h = absurd (omega arith)
 
@@ -355,6 +375,7 @@ first_due = chain_due (codes "first") MAX_WORDS MAX_POSITIONS
 abbrev pub from_first : Format FanSaid
 from_first = and_then first_due from_second
 
+-- what is due of the second chain, by how many words and letters the first one has
 pub second_for : (a : Chain) (words letters : ℕ) → words ≡ length a → letters ≡ positions a → chain_due (codes "second") (MAX_WORDS - words) (MAX_POSITIONS - letters) ≡ second_due a
 second_for a words letters w l = λ i. chain_due (codes "second") (MAX_WORDS - w i) (MAX_POSITIONS - l i)
 
@@ -365,6 +386,7 @@ chains_in_range s t u a b first second q =
     (small_chain MAX_WORDS MAX_POSITIONS a (omega arith) (omega arith) (chain_for (codes "first") MAX_WORDS MAX_POSITIONS s a t refl refl first))
     (chain_for (codes "second") (MAX_WORDS - length a) (MAX_POSITIONS - positions a) t b u refl refl second)
 
+-- where corners were taken there is one
 pub some_corner : (s t : LinesLeft) (corners : List Corner) → taken corners_due s ≡ Ok (map corner_said corners, t) → 1 ≤ length corners
 some_corner s t corners h =
     let many = (corners_in_range s t (map corner_said corners) h).some in
@@ -374,6 +396,7 @@ module _ (s : LinesLeft) where
   abbrev whole_fan : Answer (FanSaid × LinesLeft)
   whole_fan = taken fan_due s
 
+  -- a fan fails where one of its parts fails behind those before, and else is taken with them
   pub heading_stops : (e : TextFault) → Fails e (taken (literal_due heading false) s) → Fails e whole_fan
   heading_stops e h = fails_then (literal_due heading false) (λ u. from_first) s e h
 
@@ -430,6 +453,7 @@ module _ (words : ℕ) (upper lower : Pairs) (corners : List Corner) (n : ℕ) (
   block_is : (edges : List Edge) (t : LinesLeft) (i : ℕ) → AreEdgesTo edges t i → edge_behind words upper lower corners (map (λ e. e.list) edges) ≡ numbered_due words (edge_pairs upper lower corners i) i
   block_is edges t i h = ap (λ (k : ℕ). numbered_due words (edge_pairs upper lower corners k) k) h.taken_to.count
 
+  -- one more edge is taken, which goes from its corner to the next
   pub more_edges : (edges new : List Edge) (t u : LinesLeft) (i : ℕ) (e : Edge) → AreEdgesTo edges t i → i < n → new ≡ edges ++ e ∷ []
       → taken (numbered_due words (edge_pairs upper lower corners i) i) t ≡ Ok (e.list, u)
       → (edge_said e).from ≡ get_or (map corner_said corners) i no_corner → (edge_said e).to ≡ get_or (map corner_said corners) (suc i) no_corner
@@ -449,10 +473,12 @@ module _ (words : ℕ) (upper lower : Pairs) (corners : List Corner) (n : ℕ) (
             (more_joined (map corner_said corners) (map edge_said edges) (edge_said e) i h.joined count from to);
       }
 
+  -- where the next edge fails, all of them fail
   pub edge_stops : (edges : List Edge) (t : LinesLeft) (i : ℕ) (e : TextFault) → AreEdgesTo edges t i → i < n → Fails e (taken (numbered_due words (edge_pairs upper lower corners i) i) t) → Fails e (taken (edge_blocks words upper lower corners n) s)
   edge_stops edges t i e h more bad =
       block_fails (edge_behind words upper lower corners) n s (map (λ x. x.list) edges) t i e h.taken_to more
       (subst (λ (f : Format Prices). Fails e (taken f t)) (sym (block_is edges t i h)) bad)
 
+  -- after n edges all of them are taken
   pub all_edges : (edges : List Edge) (t : LinesLeft) (i : ℕ) → AreEdgesTo edges t i → n ≤ i → taken (edge_blocks words upper lower corners n) s ≡ Ok (map (λ e. e.list) edges, t)
   all_edges edges t i h all = all_blocks (edge_behind words upper lower corners) n s (map (λ x. x.list) edges) t i h.taken_to all

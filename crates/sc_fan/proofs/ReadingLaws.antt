@@ -83,6 +83,7 @@ taken_then (a_line fault more) rest n (line ∷ next ∷ others) =
     ∙ unless_after (fault line) n (taken_from (more line) (suc n) (next ∷ others)) (λ x. taken (rest x.0) x.1)
 
 module _ {A V : Type 0} (f : Format A) (rest : A → Format V) (s : LinesLeft) where
+  -- where the first format takes a value, the second one goes on behind it; where it fails, both fail
   pub onward : (t : LinesLeft) (x : A) → taken f s ≡ Ok (x, t) → taken (and_then f rest) s ≡ taken (rest x) t
   unfolding taken
   onward t x e = taken_then f rest s.number s.parts ∙ ap (λ (r : Answer (A × LinesLeft)). after_answer r (λ y. taken (rest y.0) y.1)) e
@@ -93,12 +94,14 @@ module _ {A V : Type 0} (f : Format A) (rest : A → Format V) (s : LinesLeft) w
   fails_then text_faults.Memory h = tt
 
 module _ {A V : Type 0} (whole : Answer (V × LinesLeft)) (f : Format A) (rest : A → Format V) (s : LinesLeft) (is : whole ≡ taken (and_then f rest) s) where
+  -- the same of an answer that is known to be theirs
   pub goes_on : (t : LinesLeft) (x : A) → taken f s ≡ Ok (x, t) → whole ≡ taken (rest x) t
   goes_on t x e = is ∙ onward f rest s t x e
 
   pub fails_on : (e : TextFault) → Fails e (taken f s) → Fails e whole
   fails_on e h = subst (Fails e) (sym is) (fails_then f rest s e h)
 
+-- a value that is told already takes no line
 pub told_taken : {V : Type 0} (v : V) (s : LinesLeft) → taken (told v) s ≡ Ok (v, s)
 unfolding taken
 told_taken v s = refl
@@ -117,6 +120,7 @@ module _ {V : Type 0} (fault : Line → Option Kind) (rest : Line → Format V) 
       ∙ took fault rest s.number line t.parts h.more
       ∙ ap (λ (k : ℕ). unless (fault line) s.number (taken_from (rest line) k t.parts)) (sym h.next)
 
+  -- a line without a fault is taken and the rest goes on; one with a fault fails
   pub line_taken : fault line ≡ None → taken (a_line fault rest) s ≡ taken (rest line) t
   line_taken good = took_next ∙ ap (λ (o : Option Kind). unless o s.number (taken (rest line) t)) good
 
@@ -124,6 +128,7 @@ module _ {V : Type 0} (fault : Line → Option Kind) (rest : Line → Format V) 
   line_fails (line_faults.Malformed kind) bad = took_next ∙ ap (λ (o : Option Kind). unless o s.number (taken (rest line) t)) bad ∙ ap (λ (k : ℕ). Err (k, kind)) (sym h.number)
   line_fails line_faults.Memory bad = tt
 
+-- where no line feed is left, a line that is due fails
 pub line_ends : {V : Type 0} (fault : Line → Option Kind) (rest : Line → Format V) (s : LinesLeft) (e : TextFault) → IsAtEnd s e → Fails e (taken (a_line fault rest) s)
 unfolding taken
 line_ends fault rest s e h = subst (λ (x : TextFault). Fails x (taken (a_line fault rest) s)) (sym h.fault) (ap (taken_from (a_line fault rest) s.number) h.parts)
@@ -153,6 +158,7 @@ module _ (text : Line) (s : LinesLeft) where
 -- ---- the next line of a text
 
 module _ (s : LinesLeft) (n : ℕ) (rest : List ℕ) (is : left_of n (parts rest) ≡ s) where
+  -- where a line feed is left, what stands before it is the next line
   pub next_is : (line after : List ℕ) → parts rest ≡ line ∷ parts after → IsNext s (left_of (n + 1) (parts after)) n line
   next_is line after found =
       let one : n + 1 ≡ suc n = omega arith in
@@ -163,9 +169,11 @@ module _ (s : LinesLeft) (n : ℕ) (rest : List ℕ) (is : left_of n (parts rest
         next = one ∙ ap (λ (l : LinesLeft). suc l.number) is;
       }
 
+  -- where none is left, there is no next line
   pub no_next : parts rest ≡ rest ∷ [] → IsAtEnd s (text_faults.Malformed n Ended)
   no_next none = record { last = rest; parts = ap (λ (l : LinesLeft). l.parts) (sym is) ∙ none; fault = ap (λ (l : LinesLeft). text_faults.Malformed l.number Ended) is }
 
+  -- where bytes are left, more than the empty last part is left
   pub bytes_left : eqb (length rest) 0 ≡ false → (text_faults.Malformed n Rest ≡ text_faults.Malformed s.number Rest) × (s.parts ≢ ([] ∷ []))
   bytes_left some = (
     ap (λ (l : LinesLeft). text_faults.Malformed l.number Rest) is,
@@ -182,6 +190,7 @@ module _ {A : Type 0} (kind : List A → LineKind A) (n : ℕ) (xs : List A) whe
       let one : suc (length xs) ≡ length (xs ++ x ∷ []) = omega (arith, length_push xs x) in
       ap (λ (k : ℕ). n - k) one
 
+  -- where fewer than n values stand, one more line is due, and behind it the others
   pub many_more : length xs < n → many_due kind n xs ≡ and_then (one_due (kind xs) None) (λ x. many_due kind n (xs ++ x ∷ []))
   many_more less =
       let one : n - length xs ≡ suc (n - suc (length xs)) = omega arith in
@@ -203,6 +212,7 @@ reads_from (a_line fault rest) n (line ∷ next ∷ more) v t e =
     let r = reads_from (rest line) (suc n) (next ∷ more) v t b.is in
     record { lines = line ∷ r.lines; reads = (b.none, r.reads) }
 
+-- what a lawful format takes is in its range
 pub in_range_of : {V : Type 0} (lines : V → List Line) (f : Format V) (InRange : V → Type 0) (most : ℕ) → IsLawful lines f InRange most → (s t : LinesLeft) (v : V) → taken f s ≡ Ok (v, t) → InRange v
 unfolding taken
 in_range_of lines f InRange most law s t v e = let r = reads_from f s.number s.parts v t e in law.in_range r.lines v r.reads
@@ -251,18 +261,21 @@ module _ {V : Type 0} (start : Format V) (text : List ℕ) where
   abbrev pub all_left : LinesLeft
   all_left = left_of 1 (parts text)
 
+  -- a text of which nothing is left tells the value that was taken
   pub whole_text : (v : V) (t : LinesLeft) → taken start all_left ≡ Ok (v, t) → t.parts ≡ [] ∷ [] → IsToldBy start text v
   unfolding taken
   whole_text v t e end =
       let r = reads_to start 1 (parts text) v t (start_reading start text) (split_some _ text) e in
       read_to_end start text (told v) v [] t.number (subst (λ (ps : List Line). IsReadUpTo start text (told v) ps t.number) end r.read) refl refl
 
+  -- a text of which something is left has the fault `Rest` there
   pub text_goes_on : (v : V) (t : LinesLeft) → taken start all_left ≡ Ok (v, t) → t.parts ≢ ([] ∷ []) → IsFaultOf (plan_of start) text (text_faults.Malformed t.number Rest)
   unfolding taken
   text_goes_on v t e more =
       let r = reads_to start 1 (parts text) v t (start_reading start text) (split_some _ text) e in
       late v t.number t.parts r.read r.some more
 
+  -- where what is due fails, the text has that fault
   pub text_stops : (e : TextFault) → Fails e (taken start all_left) → IsFaultOf (plan_of start) text e
   unfolding taken
   text_stops (text_faults.Malformed l k) h = stops_at start 1 (parts text) l k (start_reading start text) (split_some _ text) h

@@ -21,6 +21,7 @@ use Rattle.sc_fan.specs.Reading.{LinesLeft, left_of, taken, Fails}
 use Rattle.sc_fan.proofs.FanLaws.{all_lines, lawful_fan}
 use Rattle.sc_fan.proofs.ReadingLaws.{whole_text, text_goes_on, text_stops}
 
+-- the texts without a fault are the texts of the fans in range, and no two fans have one text
 pub text_is_faultless : (v : FanSaid) → IsFanInRange v → IsFaultless fan_plan (fan_text v)
 unfolding fan_plan
 text_is_faultless = texts.text_is_faultless fan_lines fan_due IsFanInRange all_lines lawful_fan
@@ -34,10 +35,12 @@ text_is_of_one = texts.text_is_of_one fan_lines fan_due IsFanInRange all_lines l
 
 -- ---- a fan that was read
 
+-- a fan that its text tells, or the first fault of the text, is what a reader of it answers
 pub fan_read : (bytes : List ℕ) (r : Result Fan TextFault) → IfOk r (λ f. IsToldBy fan_due bytes (fan_said f)) → IfErr r (IsFaultOf (plan_of fan_due) bytes) → IsFanRead bytes r
 fan_read bytes r = texts.text_of_read fan_lines fan_due IsFanInRange all_lines lawful_fan bytes fan_said r
 
 module _ (bytes : List ℕ) (r : Result Fan TextFault) (read : IsFanRead bytes r) where
+  -- a fan is read only of a text without a fault, and any fault is the text's first or want of memory
   pub is_faultless : OnOk r (IsFaultless fan_plan bytes)
   unfolding fan_plan
   is_faultless = texts.faultless fan_lines fan_due IsFanInRange all_lines lawful_fan bytes fan_said r read
@@ -50,6 +53,7 @@ module _ (bytes : List ℕ) (r : Result Fan TextFault) (read : IsFanRead bytes r
   unfolding fan_plan
   only_first line kind first = texts.only fan_lines fan_due IsFanInRange all_lines lawful_fan bytes fan_said r read line kind first
 
+  -- of the text of a fan in range that fan is read, unless memory runs out
   pub is_same : (v : FanSaid) → IsFanInRange v → bytes ≡ fan_text v → IfOk r (λ f. fan_said f ≡ v)
   is_same = texts.reads_again fan_lines fan_due IsFanInRange all_lines lawful_fan bytes fan_said r read
 
@@ -111,6 +115,7 @@ printed_is_read f (Err e) h joined read again = is_memory (fan_text (fan_said f)
 -- ---- what was taken of a text, and how it ends
 
 module _ (bytes : List ℕ) (s : LinesLeft) (start : s ≡ left_of 1 (parts bytes)) where
+  -- a fault in what is due is the answer; a fan is, where nothing is left; and else the fault `Rest`
   pub read_stops : (e : TextFault) → Fails e (taken fan_due s) → IsFanRead bytes (Err e)
   read_stops e h = fan_read bytes (Err e) tt (text_stops fan_due bytes e (subst (λ (l : LinesLeft). Fails e (taken fan_due l)) start h))
 

@@ -60,6 +60,7 @@ fn chain_of(alloc: Global, words: Vec<(u32, Word)>) -> Result<Chain, TextFault>
         Ok(chain) => Ok(chain),
         Err(fault) => match fault {
             ChainFault::Memory => Err(TextFault::Memory),
+            // Words in their ranges, within the limits, are accepted.
             _ => unreachable!(),
         },
     }

@@ -85,6 +85,7 @@ pub(crate) fn quadrant_pairs(
         Ok(chain) => Pairs::of(alloc, &chain),
         Err(fault) => match fault {
             ChainFault::Memory => Err(AllocError),
+            // The quadrant's chain is within the limits, as the contract demands.
             _ => unreachable!(),
         },
     }

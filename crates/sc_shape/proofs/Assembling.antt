@@ -34,6 +34,7 @@ module _ (c : Chain) (g : Sides) (components boundaries vertices sizes counts le
       ap (λ (k : ℕ). let y : Component = record { least = r; sides = k; vertices = entry counts r; edges = k / 2; boundaries = map (boundary_with c g lengths) (list_below (λ s. is_own boundaries s && (entry components s == r)) n) } in y) size
       ∙ ap₂ (λ (k : ℕ) (bs : List Boundary). let y : Component = record { least = r; sides = count_below (λ t. entry components t == r) n; vertices = k; edges = count_below (λ t. entry components t == r) n / 2; boundaries = bs } in y) corners bounds
 
+  -- components made bare, and then filled with the boundaries, are the components of the fatgraph
   pub assembled : (found filled : List Component) → found ≡ map (bare sizes counts) (list_below (is_own components) (length components)) → filled ≡ map (with_boundaries c g components boundaries lengths (length g)) found → AreComponents c g filled
   assembled found filled listed put = record {
     component = entry components;

@@ -8,6 +8,7 @@ use Rattle.sc_algebra.specs.Sums.{count_below}
 use Rattle.sc_shape.specs.Shapes.{list_below}
 
 -- ---- the next number, which passes or fails
+-- a number that passes is the next in the list, and one that fails isn't in it
 pub list_passes : (test : ℕ → Bool) (n : ℕ) → test n ≡ true → list_below test (suc n) ≡ list_below test n ++ n ∷ []
 list_passes test n e = rw e refl
 
@@ -25,6 +26,7 @@ count_fails : (test : ℕ → Bool) (n : ℕ) → test n ≡ false → count_bel
 count_fails test n e = rw e (omega arith)
 
 -- ---- length and places
+-- the list is as long as the count
 pub length-list_below : (test : ℕ → Bool) (n : ℕ) → length (list_below test n) ≡ count_below test n
 length-list_below test zero = refl
 length-list_below test (suc n) =
@@ -33,6 +35,7 @@ length-list_below test (suc n) =
       | inr e ↦ rw (list_fails test n e, count_fails test n e) (length-list_below test n)
     ]
 
+-- below a number that passes fewer pass than below a greater one
 pub count_less : (test : ℕ → Bool) (n r : ℕ) → r < n → test r ≡ true → count_below test r < count_below test n
 count_less test zero r l e = absurd (omega (arith, l))
 count_less test (suc n) r l e =
@@ -81,6 +84,7 @@ find-list_below test (suc n) k l =
     more (r, b, t, e) = (r, omega (arith, b), t, e)
 
 -- ---- maps of lists
+-- maps that are the same at the numbers that pass map the list to the same one
 pub map-list_below : {A : Type 0} (h h' : ℕ → A) (test : ℕ → Bool) (n : ℕ) → ((r : ℕ) → r < n → test r ≡ true → h r ≡ h' r) → map h (list_below test n) ≡ map h' (list_below test n)
 map-list_below h h' test zero same = refl
 map-list_below h h' test (suc n) same =
@@ -101,6 +105,7 @@ pub map_same : {A B : Type 0} (h h' : A → B) (xs : List A) (d : A) → ((k : �
 map_same h h' [] d same = refl
 map_same h h' (x ∷ xs) d same = ap₂ (λ y ys. y ∷ ys) (same 0 (omega arith)) (map_same h h' xs d (λ k l. same (suc k) (omega (arith, l))))
 
+-- maps that are the same but at one place map the list to the same one with that place set
 pub map_but_one : {A B : Type 0} (h h' : A → B) (xs : List A) (d : A) (p : ℕ) → p < length xs → ((k : ℕ) → k < length xs → k ≢ p → h' (get_or xs k d) ≡ h (get_or xs k d)) → map h' xs ≡ set (map h xs) p (h' (get_or xs p d))
 map_but_one h h' [] d p l same = absurd (omega (arith, l))
 map_but_one h h' (x ∷ xs) d zero l same = ap (λ ys. h' x ∷ ys) (map_same h h' xs d (λ k b. same (suc k) (omega (arith, b)) (λ e. omega (arith, e))))

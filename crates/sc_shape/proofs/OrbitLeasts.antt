@@ -18,6 +18,7 @@ along-congr f g f' g' n hf hg ef eg [] s l = refl
 along-congr f g f' g' n hf hg ef eg (true ∷ path) s l = along-congr f g f' g' n hf hg ef eg path (f s) (hf s l) ∙ ap (along f' g' path) (ef s l)
 along-congr f g f' g' n hf hg ef eg (false ∷ path) s l = along-congr f g f' g' n hf hg ef eg path (g s) (hg s l) ∙ ap (along f' g' path) (eg s l)
 
+-- maps that are the same below n have the same least numbers of their classes
 pub least-congr : (f g f' g' : ℕ → ℕ) (n : ℕ) → StaysBelow n f → StaysBelow n g → ((s : ℕ) → s < n → f s ≡ f' s) → ((s : ℕ) → s < n → g s ≡ g' s) → (s r : ℕ) → s < n → IsLeastLeading f g n s r → IsLeastLeading f' g' n s r
 least-congr f g f' g' n hf hg ef eg s r l h =
     let small : r ≤ s = h.least s l ([], refl) in
@@ -42,6 +43,7 @@ unfolding steps
 along_steps t zero s = refl
 along_steps t (suc k) s = along_steps t k (t s)
 
+-- a number leads to its iterates
 pub leads_by_iterate : (t : ℕ → ℕ) (k s u : ℕ) → iterate t k s ≡ u → LeadsTo t t s u
 leads_by_iterate t k s u e = (steps k, along_steps t k s ∙ e)
 
@@ -53,6 +55,7 @@ orbit_returns t n p (suc k) s h =
     let r = period p s h in
     (r.0 + m.0, iterate-add t r.0 m.0 (iterate t k (t s)) ∙ ap (iterate t r.0) m.1 ∙ r.2)
 
+-- a permutation of the numbers below n has iterates below n
 pub iterate_below : (t : ℕ → ℕ) (n : ℕ) → IsPermutation t n → (k s : ℕ) → s < n → iterate t k s < n
 iterate_below t n p zero s h = h
 iterate_below t n p (suc k) s h = iterate_below t n p k (t s) (p.into s h)
@@ -78,6 +81,7 @@ own_is_least t n p s r l h =
           ne_eqb r s differ ∙ sym e
     ]
 
+-- the least side that `next` alone leads to is the least one of the boundary
 pub boundary_from : (g : Sides) (s r : ℕ) → IsLeastLeading (next g) (next g) (length g) s r → IsLeastOfBoundary g s r
 boundary_from g s r h = record {
   on_cycle = (length h.leads.0, sym (along_one (next g) h.leads.0 r) ∙ h.leads.1);
@@ -95,6 +99,7 @@ classes_of_maps f g n first second least hf hg vf vg a =
     let b : AreLeast (entry first) (entry second) n least = rw e at a in
     (b.as_many, λ s l. least-congr (entry first) (entry second) f g n (stays f n first vf hf) (stays g n second vg hg) vf.each vg.each s (entry least s) l (b.right s l))
 
+-- the least numbers of classes by tables of the steps are the least sides of components, boundaries, vertices
 pub leasts_from_steps : (g : Sides) (mates nexts turns components boundaries vertices : List ℕ) → IsRibbon g → AreSteps g (length g) mates nexts turns → AreLeast (entry mates) (entry nexts) (length mates) components → AreLeast (entry nexts) (entry nexts) (length nexts) boundaries → AreLeast (entry turns) (entry turns) (length turns) vertices → AreLeasts g components boundaries vertices
 leasts_from_steps g mates nexts turns components boundaries vertices r h ac ab av =
     let n : ℕ = length g in

@@ -24,10 +24,12 @@ append_assoc [] ys zs = refl
 append_assoc (x ∷ xs) ys zs = ap (λ ws. x ∷ ws) (append_assoc xs ys zs)
 
 -- ---- the components in order, and their places
+-- the components with a least side below s, in order, and the places at which these stand
 pub record AreListed (components sizes vertices : List ℕ) (s : ℕ) (found : List Component) (places : List ℕ) : Type 0 where
   pub listed : found ≡ map (bare sizes vertices) (list_below (is_own components) s)
   pub placed : ArePlaces components s places
 
+-- the list is as long as there are least sides below s, so no longer than s
 pub listed_length : (components sizes vertices : List ℕ) (s : ℕ) (found : List Component) (places : List ℕ) → AreListed components sizes vertices s found places → length found ≡ count_below (is_own components) s
 listed_length components sizes vertices s found places h =
     ap (λ (xs : List Component). length xs) h.listed ∙ length_of_map (bare sizes vertices) (list_below (is_own components) s) ∙ length-list_below (is_own components) s
@@ -35,6 +37,7 @@ listed_length components sizes vertices s found places h =
 pub listed_few : (components sizes vertices : List ℕ) (s : ℕ) (found : List Component) (places : List ℕ) → AreListed components sizes vertices s found places → length found ≤ s
 listed_few components sizes vertices s found places h = rw (listed_length components sizes vertices s found places h) (count-le (is_own components) s)
 
+-- with a least side one component more stands at the end, and the side has its place
 pub listed_more : (components sizes vertices : List ℕ) (s : ℕ) (found : List Component) (places : List ℕ) (x : Component) → s < length places → entry components s ≡ s → x ≡ bare sizes vertices s → AreListed components sizes vertices s found places → AreListed components sizes vertices (s + 1) (found ++ x ∷ []) (set places s (length found))
 listed_more components sizes vertices s found places x l own is h =
     let own' : is_own components s ≡ true = eq-eqb (entry components s) s own in
@@ -49,6 +52,7 @@ listed_more components sizes vertices s found places x l own is h =
           ];
     }
 
+-- with any other side nothing changes
 pub listed_stay : (components sizes vertices : List ℕ) (s : ℕ) (found : List Component) (places : List ℕ) → entry components s ≢ s → AreListed components sizes vertices s found places → AreListed components sizes vertices (s + 1) found places
 listed_stay components sizes vertices s found places other h =
     let other' : is_own components s ≡ false = ne_eqb (entry components s) s other in
@@ -75,11 +79,13 @@ least_is_own g components are s l =
     let over : r ≤ entry components r = h.least (entry components r) (omega (arith, under, lr)) (leads_further (mate g) (next g) (entry components r) r s hr.leads h.leads) in
     eq-eqb (entry components r) r (omega (arith, under, over))
 
+-- the least side of a component is a side
 pub components_inside : (g : Sides) (components : List ℕ) → length components ≡ length g → ((s : ℕ) → s < length g → IsLeastOfComponent g s (entry components s)) → PointInside components
 components_inside g components e are s l =
     let b : s < length g = omega (arith, l, e) in
     omega (arith, e, b, least_at_most (mate g) (next g) (length g) s (entry components s) b (are s b))
 
+-- when all sides are done each component stands at the place of its least side
 pub stand_at_places : (g : Sides) (components sizes vertices : List ℕ) (found : List Component) (places : List ℕ) → length components ≡ length g → ((s : ℕ) → s < length g → IsLeastOfComponent g s (entry components s)) → AreListed components sizes vertices (length components) found places → AreAtPlaces components places found
 stand_at_places g components sizes vertices found places e are h =
     let n : ℕ = length components in
@@ -126,6 +132,7 @@ module _ (c : Chain) (g : Sides) (components boundaries lengths : List ℕ) wher
       ap (λ (bs : List Boundary). let y : Component = record x { boundaries = bs } in y)
       (ap (λ (bs : List Boundary). x.boundaries ++ bs) more ∙ sym (append_assoc x.boundaries (map b (list_below test s)) (b s ∷ [])))
 
+  -- at first no boundary is put into a component
   pub puts_begin : (xs : List Component) → xs ≡ map (with_boundaries c g components boundaries lengths 0) xs
   puts_begin [] = refl
   puts_begin (x ∷ xs) =
@@ -158,6 +165,7 @@ module _ (c : Chain) (g : Sides) (components boundaries lengths : List ℕ) wher
       (here ∙ ap (λ (z : Component). let y : Component = record z { boundaries = z.boundaries ++ boundary_with c g lengths s ∷ [] } in y) (sym got))
 
 -- ---- the same, of lists that are known by equations
+-- one component more
 pub listed_pushed : (components sizes vertices : List ℕ) (s : ℕ) (found : List Component) (places : List ℕ) (x : Component) (m : ℕ) (found' : List Component) (places' : List ℕ) → s < length places → entry components s ≡ s → x ≡ bare sizes vertices s → m ≡ length found → found' ≡ found ++ x ∷ [] → places' ≡ set places s m → AreListed components sizes vertices s found places → AreListed components sizes vertices (s + 1) found' places'
 listed_pushed components sizes vertices s found places x m found' places' l own is em ef ep h =
     rw (ef, ep, em) (listed_more components sizes vertices s found places x l own is h)
@@ -166,6 +174,7 @@ listed_pushed components sizes vertices s found places x m found' places' l own 
 pub boundary_made : (c : Chain) (g : Sides) (lengths : List ℕ) (s least word degree : ℕ) → least ≡ s → word ≡ word_of c (label g s) → degree ≡ entry lengths s / length (the_word c (word_of c (label g s))) → (let b : Boundary = record { least = least; word = word; degree = degree } in b) ≡ boundary_with c g lengths s
 boundary_made c g lengths s least word degree el ew ed = λ i. record { least = el i; word = ew i; degree = ed i }
 
+-- one boundary more
 pub puts_pushed : (c : Chain) (g : Sides) (components boundaries lengths places : List ℕ) (xs : List Component) (s : ℕ) (items items' : List Component) (x : Component) (b : Boundary) (bs : List Boundary) → AreAtPlaces components places xs → s < length components → is_own boundaries s ≡ true → items ≡ map (with_boundaries c g components boundaries lengths s) xs → x ≡ get_or items (entry places (entry components s)) x → b ≡ boundary_with c g lengths s → bs ≡ x.boundaries ++ b ∷ [] → items' ≡ set items (entry places (entry components s)) (record x { boundaries = bs }) → items' ≡ map (with_boundaries c g components boundaries lengths (s + 1)) xs
 puts_pushed c g components boundaries lengths places xs s items items' x b bs h l own before at made pushed written =
     let p : ℕ = entry places (entry components s) in

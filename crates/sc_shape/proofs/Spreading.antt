@@ -13,6 +13,7 @@ along-append : (f g : ℕ → ℕ) (path more : List Bool) (s : ℕ) → along f
 along-append f g [] more s = refl
 along-append f g (b ∷ path) more s = along-append f g path more (if b then f s else g s)
 
+-- a path goes on by a step of either map, or by another path
 pub leads_by_first : (f g : ℕ → ℕ) (s t : ℕ) → LeadsTo f g s t → LeadsTo f g s (f t)
 leads_by_first f g s t (path, e) = (path ++ true ∷ [], along-append f g path (true ∷ []) s ∙ ap f e)
 
@@ -40,6 +41,7 @@ mark_cases marks i s m =
       | inr n ↦ let ne : s ≢ i = n in inr (rw get_or-set_other at m)
     ]
 
+-- a mark that is made keeps the others
 pub mark_kept : (marks : List Bool) (i s : ℕ) → i < length marks → IsMarked marks s → IsMarked (set marks i true) s
 mark_kept marks i s l m =
     elim (cases_eq s i) [
@@ -47,6 +49,7 @@ mark_kept marks i s l m =
       | inr n ↦ let ne : s ≢ i = n in rw get_or-set_other m
     ]
 
+-- and is there
 pub mark_made : (marks : List Bool) (i : ℕ) → i < length marks → IsMarked (set marks i true) i
 mark_made marks i l = rw get_or-set_same refl
 
@@ -232,6 +235,7 @@ spreads_round f g n before least_before start marks least reached done u marks1 
     let begun2 : IsMarked marks2 start = rw m2 (mark_kept marks1 (g u) start lg begun1) in
     (spreads_step f g n before least_before start marks2 least2 reached2 done two in2.0 (rw same first_is) (rw same second_is), begun2)
 
+-- each round of the search lessens how many have no mark and how many were reached and aren't done, together
 pub round_smaller : (marks : List Bool) (reached : List ℕ) (done u v : ℕ) (marks1 : List Bool) (reached1 : List ℕ) (marks2 : List Bool) (reached2 : List ℕ) → done < length reached → u < length marks → v < length marks1 → marks1 ≡ set marks u true → reached1 ≡ (if get_or marks u false then reached else reached ++ u ∷ []) → marks2 ≡ set marks1 v true → reached2 ≡ (if get_or marks1 v false then reached1 else reached1 ++ v ∷ []) → count_by not marks2 + length reached2 - (done + 1) < count_by not marks + length reached - done
 round_smaller marks reached done u v marks1 reached1 marks2 reached2 l lu lv m1 r1 m2 r2 =
     omega (arith, l, reach_total marks reached u marks1 reached1 lu m1 r1, reach_total marks1 reached1 v marks2 reached2 lv m2 r2)

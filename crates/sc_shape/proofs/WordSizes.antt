@@ -14,6 +14,7 @@ not_empty : {A : Type 0} (xs : List A) → xs ≢ [] → 0 < length xs
 not_empty [] n = absurd (n refl)
 not_empty (x ∷ xs) n = omega arith
 
+-- a word of a small chain has a letter at least, and fewer than 2^32
 pub word_size : (c : Chain) (w : ℕ) (d : ℕ × Word) → IsSmallChain c → w < length c → (0 < length (get_or c w d).1) × (length (get_or c w d).1 < 2 ^ 32)
 word_size c w d small l =
     let same : get_or c w d ≡ get_or c w no_word = get-default c w d no_word l in

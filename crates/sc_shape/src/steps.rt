@@ -66,7 +66,8 @@ pub(crate) fn leasts_of(alloc: Global, sides: &[Side]) -> Result<Leasts, AllocEr
     })
 }
 
-/// For each side the least side of its vertex: of the orbit of the step from a side to the mate of its next.
+/// For each side the least side at its vertex. The sides at a vertex are those to which turns lead, each from a side to
+/// the mate of its next side. So a side has its own number here exactly where it is the least one at its vertex.
 pub fn least_of_vertices(alloc: Global, fatgraph: &Fatgraph) -> Result<Vec<u32>, AllocError>
     ensures as_many { IfOk result (λ least. length least.items ≡ length fatgraph.now.sides) }
     ensures least { IfOk result (λ least. (s : ℕ) → s < length fatgraph.now.sides → is_own least.items s ≡ is_least_for (turn fatgraph.now.sides) (length fatgraph.now.sides) s) }

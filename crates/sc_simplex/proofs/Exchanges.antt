@@ -15,6 +15,7 @@ use Rattle.sc_rows.specs.declared.fault.RowFault.TheVariants.{Wide, Memory}
 use Rattle.sc_rows.specs.declared.prices.PriceRows.{PriceRows}
 use Rattle.sc_simplex.specs.Leaving.{NoneTie}
 
+-- where one kind of evidence gives another, a refusal with the one is a refusal with the other
 pub fault_weaker : (P Q : WideAt → Type 0) → ((w : WideAt) → P w → Q w) → (f : RowFault) → IsWideBy P f → IsWideBy Q f
 fault_weaker P Q weaker (Wide w) h = weaker w h
 fault_weaker P Q weaker Memory h = tt
@@ -22,6 +23,7 @@ fault_weaker P Q weaker Memory h = tt
 pub same_ok : {A E : Type 0} (x y : A) → ◌≡◌ {A = Result A E} (Ok x) (Ok y) → x ≡ y
 same_ok x y e = cc
 
+-- no two rows that stand for a basis have the same line over their products with a column
 pub none_tie : (rows : List Line) (b a : ℕ → ℤ) (p : PriceRows) (c : Entries) (basis : Basis) → Stands (length rows) basis (numbers_of rows p)
     → ((i : ℕ) → i < length rows → a i ≡ along (length rows) (numbers_of rows p) c i) → NoneTie rows b a
 none_tie rows b a p c basis stands same i l inside within apart first second equal =

@@ -72,6 +72,7 @@ pub record New (ks : List (List ℕ)) (k : List ℕ) : Type 0 where
   pub nowhere : (i : ℕ) → slice_get (first_seen ks) i ≡ Some k → ⊥
   pub last : first_seen (ks ++ k ∷ []) ≡ first_seen ks ++ k ∷ []
 
+-- one more key is known or new
 pub one_more_key : (ks : List (List ℕ)) (k : List ℕ) → Known ks k ⊎ New ks k
 one_more_key [] k = inr (record { nowhere = λ i at. none-some k at; last = refl })
 one_more_key (j ∷ js) k =

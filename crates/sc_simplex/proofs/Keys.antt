@@ -76,6 +76,7 @@ module _ {K : Type 0} (items : K → List ℕ) (same : K → K → Bool) (decide
   found_is key ks keys None e is = tt
   found_is key ks keys (Some i) e is = key_found key ks keys e i (sym is)
 
+  -- where no place was found, the key stands nowhere
   pub missing_is : (key : K) (ks : List K) (keys : List (List ℕ)) (r : Option ℕ) → map items ks ≡ keys → r ≡ position (same key) ks → IfNone r ((i : ℕ) → slice_get keys i ≡ Some (items key) → ⊥)
   missing_is key ks keys None e is = λ i at. key_missing key ks keys e i (sym is) at
   missing_is key ks keys (Some i) e is = tt
@@ -97,6 +98,7 @@ decides_keys a b = slice_eq-Decides Decides-eqb a.items b.items (pointwise eqb a
 pub values_more : {K V : Type 0} (es fs : List (K × V)) (k : K) (v : V) → fs ≡ es ++ (k, v) ∷ [] → values_of fs ≡ values_of es ++ v ∷ []
 values_more es fs k v e = ap values_of e ∙ map-append (λ p. p.1) es ((k, v) ∷ [])
 
+-- each column still stands under its own key when one more is put behind the others under its own
 pub own_keys_more : {K V : Type 0} (items : K → List ℕ) (key : V → List ℕ) (es fs : List (K × V)) (k : K) (v : V) → fs ≡ es ++ (k, v) ∷ [] → items k ≡ key v
     → map items (keys_of es) ≡ map key (values_of es) → map items (keys_of fs) ≡ map key (values_of fs)
 own_keys_more items key es fs k v e same own =

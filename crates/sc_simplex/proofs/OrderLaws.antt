@@ -43,11 +43,13 @@ lines_order Greater n f g f' g' e d h = lex_map n g f g' f' (λ k l. d k) (λ k 
 
 -- ---- the best row so far
 module _ (rows : List Line) (b a : ℕ → ℤ) (n : ℕ) where
+  -- a row without a positive product leaves the best row as it is
   pub best_skips : (best : Option Best) → a n ≤ℤ pos 0 → IsBest rows b a n best → IsBest rows b a (suc n) best
   best_skips None none h = none_more (length rows) b a (row_of rows) n h none
   best_skips (Some x) none h =
       record { least = least_kept (length rows) b a (row_of rows) n x.row h.least (λ p. absurd (omega (arith, ints))); value = h.value }
 
+  -- the first row with a positive product is the best so far
   pub best_begins : (v : ℤ) → v ≡ dot (length rows) (row_of rows n) b → pos 0 <ℤ a n → IsBest rows b a n None → IsBest rows b a (suc n) (Some (record { row = n; value = v }))
   best_begins v value positive none = record { least = least_first (length rows) b a (row_of rows) n none positive; value = value }
 

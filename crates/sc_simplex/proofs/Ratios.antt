@@ -22,6 +22,7 @@ none_turned : (p q : ℤ) (w : Operation) → pos 0 <ℤ q → IsFirstWide (turn
 none_turned p q w positive h =
     subst (λ (b : Bool). IsFirstWide (if b then step Sub (pos 0) p ∷ step Sub (pos 0) q ∷ [] else []) w) (not_below q positive) h
 
+-- a quotient over a positive number gives a fraction
 pub never_refused : (num den : ℤ) (r : Result Frac FracFault) → pos 0 <ℤ den → ((r ≡ Err Zero) ↔ (den ≡ pos 0))
     → IfErr r (λ fault. IfWide fault (λ w. ForReduced num den (λ steps. IsFirstWide steps w))) → ((x : Frac) → r ≡ Ok x → ⊥) → ⊥
 never_refused num den (Ok x) positive zero wide never = never x refl

@@ -50,6 +50,7 @@ use Rattle.sc_simplex.specs.WideOperations.{TellsPlace, IsEnteringTold}
 use Rattle.sc_simplex.proofs.ToldLaws.{needs, told_silent}
 use Rattle.sc_simplex.proofs.WideLaws.{value_for}
 
+-- the numbers and items of the unit columns, without columns and pivots, are a state
 pub start_state : (C : ColumnsBy) (r : ℕ) (b : ℕ → ℤ) (s : State) → RowsStand r (unit_basis r) s.rows → PricesStand r (unit_basis r) s.prices → length s.basis.items ≡ r
     → ((i : ℕ) → i < r → get_or s.basis.items i no_item ≡ UnitOf i) → s.columns ≡ [] → s.journal.items ≡ [] → IsState C r b s
 start_state C r b s rows prices size units columns journal =
@@ -89,6 +90,7 @@ refused_all C r rows p (c ∷ cs) none known =
     (none k.0 c k.1, refused_all C r rows p cs none (λ j d at. known (suc j) d at))
 
 module _ (C : ColumnsBy) (r : ℕ) (b : ℕ → ℤ) (budget : ℕ) (s : State) (positive : IsNonNegative r b) (state : IsState C r b s) where
+  -- the journal of a state is lawful
   pub lawful_by : IsLawfulBy C r b s.journal.items state.pivots
   lawful_by = record { named = state.named; lawful = state.lawful; rises = rises_along r b state.pivots positive state.lawful }
 
@@ -119,6 +121,7 @@ module _ (C : ColumnsBy) (r : ℕ) (b : ℕ → ℤ) (budget : ℕ) (s : State) 
       quotient : (i : ℕ) (f : Frac) → slice_get list i ≡ Some f → IsQuotient (value r b (numbers_of s.rows s.prices) i) (den_of s.rows i) f
       quotient i f at = subst (λ (n : ℕ). IsQuotient (dot n (row_of s.rows i) b) (den_of s.rows i) f) state.rows.size (quotients i f at)
 
+  -- where no column improves its prices, what is made of a state is an optimum
   pub optimum_of : (o : Optimum) → length s.journal.items ≤ budget → NoneImproves C r s.prices → IsSumOfColumns C r b → IsMadeOf s b o → IsOptimum C r b budget o
   optimum_of o within none sum made =
       record {
@@ -140,6 +143,7 @@ module _ (C : ColumnsBy) (r : ℕ) (b : ℕ → ℤ) (budget : ℕ) (s : State) 
       record { pivots = state.pivots; lawful = lawful_by; used = used; prices = s.prices; stands = state.prices; known = known; improves = improves }
 
   module _ (shows : ShownBy) (within : length s.journal.items ≤ budget) where
+    -- what is shown at the prices of a state is shown after its journal
     pub shown_after : (at : WideAt) → shows s.prices at → IsWideAfter C shows r b budget s.journal.items at
     shown_after at shown =
         record { pivots = state.pivots; lawful = lawful_by; within = within; wide = inl (record { prices = s.prices; stands = state.prices; shown = shown }) }
@@ -184,6 +188,7 @@ module _ (C : ColumnsBy) (r : ℕ) (b : ℕ → ℤ) (budget : ℕ) (s : State) 
         silent w (i, inside, (k, within, inr add)) = ap (λ (z : WideAt). speaks_of_column z.place) add.0
 
 -- ---- faults
+-- a refusal of rows and prices, and one of the oracle, stop the search after the pivots so far
 pub stopped_by : (C : ColumnsBy) (shows : ShownBy) (r : ℕ) (b : ℕ → ℤ) (budget : ℕ) (ks : List KeyPivot) (P : WideAt → Type 0) (fault : SimplexFault) (f : RowFault)
     → ((at : WideAt) → P at → IsWideAfter C shows r b budget ks at) → IsStopBy fault ks f → IsWideBy P f → IsStopped C shows r b budget fault
 stopped_by C shows r b budget ks P (Budget js c) f after stop wide = absurd stop
@@ -201,6 +206,7 @@ stopped_by_oracle C shows r b budget ks P (Wide js at) OracleMemory after stop w
 stopped_by_oracle C shows r b budget ks P Memory f after stop wide = tt
 
 -- ---- by other words
+-- none of fewer columns improves; a refusal shows what its evidence implies; what is told of columns is told of more
 pub none_by : (C D : ColumnsBy) (r n : ℕ) (p : PriceRows) → r ≡ n → ((key : List ℕ) (c : Entries) → D key c → C key c) → NoneImproves C r p → NoneImproves D n p
 none_by C D r n p e back none = subst (λ (m : ℕ). NoneImproves D m p) e (λ key c known. none key c (back key c known))
 
@@ -226,6 +232,7 @@ told_by C D r b t w all h =
       operands = h.operands;
     }
 
+-- an answer that is no refusal has what it has where it is none
 pub from_ok : {A E : Type 0} (r : Result A E) (P : Type 0) → ((e : E) → r ≡ Err e → ⊥) → OnOk r P → P
 from_ok (Ok a) P never h = h
 from_ok (Err e) P never h = absurd (never e refl)

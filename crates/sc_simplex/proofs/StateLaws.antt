@@ -28,6 +28,7 @@ use Rattle.sc_simplex.specs.States.{IsState, IsReady, RowsFollow, PricesFollow, 
 use Rattle.sc_simplex.proofs.FirstSeen.{Known, New, one_more_key, length_first_seen}
 
 -- ---- named journals
+-- one more pivot with its key's column is named by one more key
 pub named_more : (C : ColumnsBy) (ks : List KeyPivot) (ps : Journal) (k : KeyPivot) (p : Pivot) → AreNamed C ks ps → k.row ≡ p.0 → C k.key.items p.1 → AreNamed C (ks ++ k ∷ []) (ps ++ p ∷ [])
 named_more C [] [] k p named row known = (row, known, tt)
 named_more C [] (q ∷ ps) k p named row known = absurd named
@@ -68,6 +69,7 @@ no_units C r i own at =
     past_units past = subst (λ (n : ℕ). n ≤ i) (sym (length-replicate r None)) past
 
 -- ---- ready for a pivot
+-- a state is ready to be pivoted by a column that improves it
 pub ready : (C : ColumnsBy) (r : ℕ) (b : ℕ → ℤ) (s : State) (long : ℕ → ℤ) (key : List ℕ) (c : Entries) → IsNonNegative r b → IsState C r b s
     → ((k : List ℕ) (d : Entries) → C k d → pos 1 ≤ℤ dot r long (entry_of d)) → C key c → ImprovesAt r s.prices c → IsReady r s.rows s.prices c
 ready C r b s long key c positive state lengths known improves =
@@ -184,6 +186,8 @@ items_after C r ps journal basis columns new row column place last old size insi
         ]
 
 -- ---- the whole state after the pivot
+-- after the pivot of a column that improves, in the leaving row, with the numbers that follow and the column noted,
+-- there is a state again
 pub state_after : (C : ColumnsBy) (r : ℕ) (b : ℕ → ℤ) (old mid new : State) (row : ℕ) (column : Column) → ((key : List ℕ) (c d : Entries) → C key c → C key d → c ≡ d)
     → IsState C r b old → C column.key.items column.entries.items → ImprovesAt r old.prices column.entries.items → IsLeaving r b (numbers_of old.rows old.prices) column.entries.items row
     → RowsFollow r old.rows mid.rows row column.entries.items → PricesFollow r old.rows old.prices mid.prices row column.entries.items

@@ -47,9 +47,11 @@ bare_operands r b t c d l (price_right level k) x y e h = absurd (true≢false e
 bare_operands r b t c d l (price_sum level k) x y e h = absurd (true≢false e)
 bare_operands r b t c d l (price_scale level) x y e h = absurd (true≢false e)
 
+-- whether a place needs the entering column is whether its name speaks of it
 pub needs : (place : Place) (w : WideAt) (v : Bool) → TellsPlace place w → speaks_of_column w.place ≡ v → needs_entering place ≡ v
 needs place w v tells e = sym (speaks_names place) ∙ ap speaks_of_column (sym tells.name) ∙ e
 
+-- evidence at a place that speaks of no column is told without a key
 pub told_silent : (C : ColumnsBy) (r : ℕ) (b : ℕ → ℤ) (t : BasisNumbers) (c : Entries) (w : WideAt) → IsWideFor r b t c w → speaks_of_column w.place ≡ false → IsWideTold C r b t w
 told_silent C r b t c w h e =
     record {
@@ -62,6 +64,7 @@ told_silent C r b t c w h e =
       operands = bare_operands r b t c [] (row_or_first w.leaving) h.place w.wide.x w.wide.y (needs h.place w false h.tells e) h.operands;
     }
 
+-- evidence at a place that speaks of the column is told with its key
 pub told_spoken : (C : ColumnsBy) (r : ℕ) (b : ℕ → ℤ) (t : BasisNumbers) (c : Entries) (w v : WideAt) → IsWideFor r b t c w → speaks_of_column w.place ≡ true
     → ((place : Place) → TellsPlace place w → TellsPlace place v) → w.leaving ≡ v.leaving → w.wide ≡ v.wide → IsEnteringTold C (option_map vec_items v.entering) (Some c) → IsWideTold C r b t v
 told_spoken C r b t c w v h e tells leaving wide told =

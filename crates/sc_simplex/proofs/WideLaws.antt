@@ -55,6 +55,7 @@ scale_positive : (n : ℕ) (v : ℕ → ℤ) (d : ℤ) (w : ℕ → ℤ) (e : �
 scale_positive n v d w e h positive = pos_of_mul h.factor d h.positive (subst (λ (z : ℤ). pos 0 <ℤ z) (sym h.scale) positive)
 
 module _ (b : ℕ → ℤ) (rows : List Line) (p : PriceRows) (c : Entries) where
+  -- an operation of a value that is too wide, and of a product with a column, is evidence for the numbers of the basis
   pub value_for : (w : WideAt) → IsWideSomeValue rows b w → IsWideFor (length rows) b (numbers_of rows p) c w
   value_for w (i, inside, (k, within, inl mul)) =
       wide_for (length rows) b (numbers_of rows p) c (value_product i k) _ _ _ _ _ _ _ w refl refl refl (λ h. h) refl (inside, within, refl, refl) mul
@@ -87,6 +88,7 @@ module _ (b : ℕ → ℤ) (rows : List Line) (p : PriceRows) (c : Entries) wher
 
     module _ (l : ℕ) (leaves : IsLeaving (length rows) b (numbers_of rows p) c l) where
       -- ---- new rows
+      -- so is one of a new row
       pub pivot_for : (a : ℕ → ℤ) (w : WideAt) → ((i : ℕ) → i < length rows → a i ≡ along (length rows) (numbers_of rows p) c i) → IsWidePivot rows a l w
           → IsWideFor (length rows) b (numbers_of rows p) c w
       pivot_for a w same h =
@@ -157,6 +159,7 @@ module _ (b : ℕ → ℤ) (rows : List Line) (p : PriceRows) (c : Entries) wher
             | inr mul ↦ wide_for (length rows) b (numbers_of rows p) c (price_scale fine_level) _ _ _ _ _ _ _ w refl refl refl (λ n. n) refl (s.0, refl, sym s.1) mul
           ]
 
+      -- so is one of the new prices
       pub prices_for : (w : WideAt) → IsWidePricePivot (length rows) p c (row_of rows l) l w → IsWideFor (length rows) b (numbers_of rows p) c w
       prices_for w (inl wide) = along_for w (l, leaves.inside, wide)
       prices_for w (inr (inl (inl gap))) = bulk_gap_for w gap

@@ -64,6 +64,7 @@ fn exchange(
 {
     let along = rows.along(alloc, column)?;
     let Some(row) = leaving_row(rows, rhs, along.as_slice())? else {
+        // A column that improves has a positive product with some row.
         unreachable!()
     };
     prices.pivot(alloc, rows, row, column)?;

@@ -19,6 +19,7 @@ fn ratio(num: i128, den: i128) -> Frac
     ensures { IsQuotient num den result }
 {
     let Ok(quotient) = Frac::new(num, den) else {
+        // The number below is above 0: it isn't 0, and no sign is turned, which alone might not fit.
         unreachable!()
     };
     quotient

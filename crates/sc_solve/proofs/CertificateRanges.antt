@@ -74,6 +74,7 @@ rows_in_range : (n : ℕ) (tables : Tables) → AllByRecursion (λ row. length r
 rows_in_range n [] sizes small = tt
 rows_in_range n (row ∷ tables) sizes small = (record { count_is = sizes.0; entries_in_range = small.0 }, rows_in_range n tables sizes.1 small.1)
 
+-- a lift has a base price for each word of its chain and a price for each pair
 pub lift_counts : (c : Chain) (p : PriceRows) (list : Prices) → IsLift c p list → FitsCounts (length c) (length (pairs c)) list
 lift_counts c p list lift =
     subst (FitsCounts (length c) (length (pairs c))) (sym lift.list_is)
@@ -83,6 +84,7 @@ lift_counts c p list lift =
     })
 
 -- ---- the certificate
+-- a certificate whose parts are in their ranges, over a surface of the chain with its value, is in its range
 pub certificate_in_range : (c : Chain) (f : Surface) (v : Frac) (list : Prices) (tables : Tables) (journal : List Pivot) → IsSmallChain c → IsChainInRange c → f.chain ≡ c → IsSurface f → IsQuotient (cost f.sides) (pos (2 * f.copies)) v
     → IsSmallList list → FitsCounts (length c) (length (pairs c)) list → AreTablesOf (positions c) tables → AreSmallTables tables → length journal ≤ MAX_PIVOTS → AllByRecursion (IsPivotInRange c) journal
     → IsCertificateInRange (stated f v list tables journal)

@@ -177,6 +177,7 @@ module _ (c : Chain) (chain : IsChain c) (v : ℕ → ℤ) (scale : ℤ) where
       sum-append (λ k. v k *ℤ step_column c k i j) (length (pairs c)) (length c)
       ∙ ap₂ (λ (x y : ℤ). x +ℤ y) (pairs_total c v i j step scale) (words_total i j step)
 
+  -- prices of the rows times the column of a closed walk are the walk's total at these prices
   pub column_total : (walk : List ℕ) → IsClosedWalk c walk → dot (rows c) v (column c walk) ≡ walk_total (price c (list_by c v scale)) walk
   column_total walk closed =
       sum-congr _ _ (rows c) (λ k _. ap (λ (x : ℤ). v k *ℤ x) (column_is c walk k) ∙ sym (walk_total-mul (v k) (step_column c k) walk))
@@ -200,6 +201,7 @@ weighted a m b e = mul_comm a m ∙ ap (λ (z : ℤ). m *ℤ z) e
 nothing_more : (x y : ℤ) → x ≡ pos 0 → x +ℤ y ≡ y
 nothing_more x y e = omega (arith, ints)
 
+-- prices of the rows times the right side are the bound of their price list
 pub right_side_total : (c : Chain) (v : ℕ → ℤ) (scale : ℤ) → dot (rows c) v (right_side c) ≡ bound c (list_by c v scale)
 right_side_total c v scale =
     sum-append (λ k. v k *ℤ right_side c k) (length (pairs c)) (length c)

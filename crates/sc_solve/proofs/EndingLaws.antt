@@ -117,17 +117,20 @@ side_at c side is k =
       | inr past ↦ get_or_past side k (pos 0) (subst (λ (n : ℕ). n ≤ k) (sym (length-side c side is)) past) ∙ sym (past_rows c k past)
     ]
 
+-- the list of the right side has a number for each row, and these are the numbers of the right side
 pub side_size : (c : Chain) (side : List ℤ) → side ≡ map (right_side c) (range_with_len 0 (rows c)) → length side ≡ rows c
 side_size = length-side
 
 pub side_is : (c : Chain) (side : List ℤ) → side ≡ map (right_side c) (range_with_len 0 (rows c)) → at side ≡ right_side c
 side_is c side is = λ i. λ k. side_at c side is k i
 
+-- the right side of a balanced chain is a sum of columns of its polygons
 pub balance_of : (c : Chain) → IsChain c → IsBalanced c → IsSumOfColumns (IsPolygonColumn c) (rows c) (right_side c)
 balance_of c chain balanced = feasible c (seed c chain balanced).0 (right_side c) (seed c chain balanced).1 (λ k inside. refl)
 
 -- from the oracle's chain and the list of the right side to the chain and its right side
 module _ (c own : Chain) (side : List ℤ) (same : own ≡ c) (side_list : side ≡ map (right_side c) (range_with_len 0 (rows c))) where
+  -- what holds of the oracle's chain and of the list holds of the chain and its right side, and the other way
   pub over_side : (P : Chain → ℕ → (ℕ → ℤ) → Type 0) → P own (length side) (at side) → P c (rows c) (right_side c)
   over_side P h =
       subst (λ (d : Chain). P d (rows c) (right_side c)) same
@@ -139,10 +142,12 @@ module _ (c own : Chain) (side : List ℤ) (same : own ≡ c) (side_list : side 
       (subst (λ (b : ℕ → ℤ). P own (rows c) b) (sym (side_is c side side_list)) (subst (λ (d : Chain). P d (rows c) (right_side c)) (sym same) h))
 
 -- ---- the optimal basis
+-- an optimum within a budget of pivots has no more columns than that
 pub few_columns : (c : Chain) (budget : ℕ) (o : Optimum) → IsOptimum (IsPolygonColumn c) (rows c) (right_side c) budget o → length o.columns ≤ budget
 few_columns c budget o is =
     omega (arith, length-map o.columns key_of, ap (λ (ks : List (List ℕ)). length ks) is.items.keys, length_first_seen (map pivot_key o.journal.items), length-map o.journal.items pivot_key, is.within)
 
+-- the keys in the journal of an optimum over the polygons are polygons
 pub optimum_polygons : (c : Chain) (budget : ℕ) (o : Optimum) → IsOptimum (IsPolygonColumn c) (rows c) (right_side c) budget o → ArePolygonKeys c o.journal.items
 optimum_polygons c budget o is = named_polygons c o.journal.items is.pivots is.lawful.named
 
@@ -165,6 +170,7 @@ ending_named c budget o n is e =
       columns_are = distinct_named o.journal.items o.columns n is.items.keys e;
     }
 
+-- what is taken over from an optimum over the polygons is an ending
 pub ending_is : (c : Chain) (budget : ℕ) (o : Optimum) (e : Ending) → IsOptimum (IsPolygonColumn c) (rows c) (right_side c) budget o → IsEndingOf o e → IsEnding c budget e
 ending_is c budget o e is of =
     subst (λ (js : List Pivot). IsEndingBy c budget js e.prices e.values.items e.columns) (sym of.journal)
@@ -173,6 +179,7 @@ ending_is c budget o e is of =
     (ending_named c budget o e.columns is of.columns)))
 
 -- ---- what stops the simplex
+-- the keys that are told where the simplex is stopped over the polygons are polygons
 pub stop_polygons : (c : Chain) (b : ℕ → ℤ) (budget : ℕ) (fault : SimplexFault) → IsSimplexStopped (IsPolygonColumn c) (IsWideSearch c) (rows c) b budget fault → HasPolygons c fault
 stop_polygons c b budget (simplex_faults.Budget journal column) is = (named_polygons c journal.items is.pivots is.lawful.named, is.known.polygon)
 stop_polygons c b budget (simplex_faults.Wide journal at) is = named_polygons c journal.items is.pivots is.lawful.named
@@ -187,6 +194,7 @@ wide_named c budget ks ps at same (inr wide) =
     inr (inl (subst (λ (n : ℕ). IsWideOperation (IsPolygonColumn c) (rows c) (right_side c) budget n (pivots_of c (map named_pivot ks)) at) (sym (length-map ks named_pivot))
     (subst (λ (qs : Journal). IsWideOperation (IsPolygonColumn c) (rows c) (right_side c) budget (length ks) qs at) (sym same) wide)))
 
+-- what stops the simplex over the polygons stops the search for a solution
 pub stop_is : (c : Chain) (budget : ℕ) (fault : SimplexFault) (stop : SolveFault) → IsSimplexStopped (IsPolygonColumn c) (IsWideSearch c) (rows c) (right_side c) budget fault → IsStopOf fault stop → IsStopped c budget stop
 stop_is c budget (simplex_faults.Budget journal column) (Budget pivots improving) is of =
     let same : pivots_of c (map named_pivot journal.items) ≡ is.pivots = named_pivots c journal.items is.pivots is.lawful.named in
@@ -220,6 +228,7 @@ stop_is c budget simplex_faults.Memory (Sides pivots part so_far next) is of = a
 stop_is c budget simplex_faults.Memory Memory is of = tt
 
 -- ---- the parts of an ending
+-- each pivot of a journal is in a row that there is
 pub end_rows : (c : Chain) (budget : ℕ) (journal : List Pivot) → IsJournalOf c budget journal → AllByRecursion (λ p. p.row < rows c) journal
 end_rows c budget journal is = only_rows journal (journal_in_range c budget journal is)
   where
@@ -228,14 +237,17 @@ end_rows c budget journal is = only_rows journal (journal_in_range c budget jour
     only_rows (p ∷ js) all = (all.0.row, only_rows js all.1)
 
 module _ (c : Chain) (budget : ℕ) (journal : List Pivot) (p : PriceRows) (values : List Frac) (columns : ℕ) (is : IsEndingBy c budget journal p values columns) where
+  -- the items of the last basis with the values of an ending are its parts, by the ending's numbers
   pub ending_parts : ArePartsFrom c is.numbers 0 (last_items c journal) (valued (last_items c journal) values)
   ending_parts =
       parts_from c is.numbers 0 (last_items c journal) values (is.values_are.size ∙ sym (length-last_items c journal))
       (λ k j f e at. (let here : k ≡ j = omega (arith, e) in is.values_are.values j f (ap (λ (i : ℕ). slice_get values i) (sym here) ∙ at)))
 
+  -- so they are the parts of the last basis
   pub parts_of_ending : ArePartsOf c journal (valued (last_items c journal) values)
   parts_of_ending = record { numbers = is.numbers; stands = is.stands; in_order = ending_parts }
 
+  -- and their values balance: so many of the columns as the values say come to the right side
   pub ending_values : IsSumOfColumns (IsPolygonColumn c) (rows c) (right_side c) → AreValues c (valued (last_items c journal) values)
   ending_values balance =
       are_values c budget journal p is.numbers balance is.lawful is.optimal is.stands (valued (last_items c journal) values) ending_parts (none_negative (last_items c journal) values is.values_are.not_negative)
@@ -282,10 +294,12 @@ solution_by c budget e list f s is balance lift covers made certified =
       columns = certified.columns_are ∙ is.columns_are ∙ ap distinct_polygons (sym journal);
     }
 
+-- an ending, its lift, which covers, and a surface that is made of its parts are a solution
 pub solution_is : (c : Chain) (budget : ℕ) (e : Ending) (list : Prices) (f : Surface) (s : Solution) → IsEnding c budget e → IsSumOfColumns (IsPolygonColumn c) (rows c) (right_side c) → IsLift c e.prices list → Covers c list
     → IsMadeOf c (valued (last_items c e.journal.items) e.values.items) f → IsCertified c e list f s → IsSolution c budget s
 solution_is = solution_by
 
+-- the certificate of what is certified over a small chain is in its range
 pub solution_readable : (c : Chain) (budget : ℕ) (e : Ending) (list : Prices) (f : Surface) (s : Solution) → IsEnding c budget e → IsSmallChain c → IsLift c e.prices list → f.chain ≡ c → IsCertified c e list f s
     → IsChainInRange c → budget ≤ MAX_PIVOTS → IsCertificateInRange (certificate_of s)
 solution_readable c budget e list f s is small lift over certified in_range few =
@@ -300,6 +314,7 @@ solution_readable c budget e list f s is small lift over certified in_range few 
 scale_positive : (c : Chain) (p : PriceRows) (list : Prices) → IsLift c p list → pos 0 <ℤ p.fine.scale → pos 0 <ℤ list.scale
 scale_positive c p list lift above = subst (λ (l : Prices). pos 0 <ℤ l.scale) (sym lift.list_is) above
 
+-- the labelled fatgraph of a solution is least, and all conditions hold of its certificate
 pub solution_least : (c : Chain) (budget : ℕ) (s : Solution) → IsChain c → IsSolution c budget s → IsLeast c s.n s.fatgraph.sides
 solution_least c budget s chain is = least c s.list s.n s.fatgraph.sides chain (scale_positive c is.prices s.list is.lift is.optimal.stands.prices.fine_scale) is.covers is.fatgraph is.tight
 
@@ -314,6 +329,7 @@ solution_conditions c budget s is =
     }
 
 -- ---- what stops lift and gluing
+-- what stops the lift after an ending stops the search for a solution
 pub unlifted_is : (c : Chain) (budget : ℕ) (e : Ending) (fault : LiftFault) (stop : SolveFault) → IsEnding c budget e → IsLiftFault c e.prices fault → IsUnlifted e.journal.items fault stop → IsStopped c budget stop
 unlifted_is c budget e (lift_faults.Wide at) (Budget pivots improving) is wide of = absurd of
 unlifted_is c budget e (lift_faults.Wide at) (Wide pivots at') is wide of =
@@ -327,6 +343,7 @@ unlifted_is c budget e lift_faults.Memory (Wide pivots at) is wide of = absurd o
 unlifted_is c budget e lift_faults.Memory (Sides pivots part so_far next) is wide of = absurd of
 unlifted_is c budget e lift_faults.Memory Memory is wide of = tt
 
+-- what stops the gluing after an ending stops the search for a solution
 pub unglued_is : (c : Chain) (budget : ℕ) (e : Ending) (fault : PartStop) (stop : SolveFault) → IsEnding c budget e → IsPartStop c (valued (last_items c e.journal.items) e.values.items) fault → IsUnglued e.journal.items fault stop → IsStopped c budget stop
 unglued_is c budget e (part_stops.Sides part so_far next) (Budget pivots improving) is many of = absurd of
 unglued_is c budget e (part_stops.Sides part so_far next) (Wide pivots at) is many of = absurd of

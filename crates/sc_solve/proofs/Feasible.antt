@@ -72,6 +72,7 @@ each P [] j x all e = absurd (cc)
 each P (y ∷ xs) zero x all e = subst P (some_is y x e) all.0
 each P (y ∷ xs) (suc j) x all e = each P xs j x all.1 e
 
+-- parts that balance over one copy have polygons whose columns sum to the right side
 pub feasible : (c : Chain) (parts : Parts) (b : ℕ → ℤ) → AreBalanced c 1 parts → ((k : ℕ) → k < rows c → b k ≡ right_side c k) → IsSumOfColumns (IsPolygonColumn c) (rows c) b
 feasible c parts b balanced same = record {
   columns = columns_of c parts;

@@ -100,6 +100,7 @@ no_items c zero = tt
 no_items c (suc n) = (tt, no_items c n)
 
 -- ---- parts with values
+-- items beside values are parts from the row i on, where each value is that of its row as a quotient
 pub parts_from : (c : Chain) (t : BasisNumbers) (i : ℕ) (items : List (Option (List ℕ))) (values : List Frac) → length values ≡ length items
     → ((k j : ℕ) (f : Frac) → j ≡ i + k → slice_get values k ≡ Some f → IsQuotient (value (rows c) (right_side c) t j) (t.denominator j) f)
     → ArePartsFrom c t i items (valued items values)
@@ -109,6 +110,7 @@ parts_from c t i (None ∷ items) (v ∷ values) len is = parts_from c t (suc i)
 parts_from c t i (Some walk ∷ items) (v ∷ values) len is =
     (refl, is 0 i v (omega arith) refl, parts_from c t (suc i) items values (omega arith) (λ k j f e at. is (suc k) j f (omega arith) at))
 
+-- where no value is negative, no part has a negative value
 pub none_negative : (items : List (Option (List ℕ))) (values : List Frac) → ((k : ℕ) (f : Frac) → slice_get values k ≡ Some f → pos 0 ≤ℤ numerator f) → AllByRecursion (λ p. pos 0 ≤ℤ numerator p.value) (valued items values)
 none_negative [] values is = tt
 none_negative (x ∷ items) [] is = tt
@@ -146,6 +148,7 @@ module _ (c : Chain) (budget : ℕ) (journal : List Pivot) (p : PriceRows) (t : 
       by_places (λ x. ¬ Improves (rows c) (mixed t p) x) balance.columns
       (λ j x at. let known = balance.are_columns j x at in subst (λ (y : Column). ¬ Improves (rows c) (mixed t p) y) (sym known.1.entries_are) (end.optimal known.0 known.1.polygon))
 
+  -- the product of the bulk prices with the right side is 0
   pub bulk_is_none : dot (rows c) (entries_of p.bulk) (right_side c) ≡ pos 0
   bulk_is_none =
       bulk_of_right_side (rows c) (right_side c) (last_basis c journal) (mixed t p) balance.columns reached (mixed_stands (rows c) (last_basis c journal) t p stands end.stands) balance.sum
@@ -172,6 +175,7 @@ module _ (c : Chain) (budget : ℕ) (journal : List Pivot) (p : PriceRows) (t : 
     column_here : (k : ℕ) → k < rows c → (i : ℕ) (walk : List ℕ) → i < length (last_items c journal) → get_or (last_items c journal) i None ≡ Some walk → columns (last_basis c journal) i k ≡ column c walk k
     column_here k inside i walk within at = ap (λ (o : Option Column). entries_at i o k) (item_of c journal i (Some walk) at) ∙ entry_is (column c walk) (rows c) k inside
 
+    -- the parts, each as often as its count says, balance over n copies
     pub parts_balance : AreBalanced c n (counted parts counts)
     parts_balance = record {
       polygons = counted_polygons c t 0 n (last_items c journal) parts counts are those (all_exchanged c (replicate (rows c) None) journal (no_items c (rows c)) lawful.polygons);
@@ -194,6 +198,7 @@ module _ (c : Chain) (budget : ℕ) (journal : List Pivot) (p : PriceRows) (t : 
         ∙ sym (by_rows (λ walk. pos 1) (fine_costs (last_basis c journal)) cost_here)
         ∙ sum_weighed n parts counts those)
 
+  -- so parts of the last basis without a negative value have the values of a solution
   pub are_values : (parts : List Part) → ArePartsFrom c t 0 (last_items c journal) parts → AllByRecursion (λ q. pos 0 ≤ℤ numerator q.value) parts → AreValues c parts
   are_values parts are all =
       let whole = common parts in

@@ -127,6 +127,7 @@ not_less_than x y h k = omega (arith, ints)
 none_negative : (x : ℤ) → x ≡ pos 0 → x <ℤ pos 0 → ⊥
 none_negative x e h = omega (arith, ints)
 
+-- a list covers its chain where each polygon costs at least its scale, which is above 0
 pub covers_by_polygons : (c : Chain) (list : Prices) → pos 0 <ℤ list.scale → ((walk : List ℕ) → IsPolygon c walk → list.scale ≤ℤ walk_total (price c list) walk) → Covers c list
 covers_by_polygons c list above each walk closed =
     fine_at_most (closed_total (fine_only (price c list)) walk) (fine_threshold list.scale) refl (nothing_total walk)
@@ -139,6 +140,7 @@ covers_by_polygons c list above each walk closed =
         by (inl less) = none_negative _ (nothing_total w) less
         by (inr (none, less)) = not_less_than _ _ (each w is.polygon) less
 
+-- the lift of prices that no polygon improves covers the chain
 pub lift_covers : (c : Chain) (p : PriceRows) (list : Prices) → IsChain c → ArePrices (rows c) p → NoneImproves (IsPolygonColumn c) (rows c) p → IsLift c p list → Covers c list
 lift_covers c p list chain prices optimal is =
     subst (Covers c) (sym is.list_is)
@@ -167,5 +169,6 @@ one_factor c p m n (inr full) (inr also) =
     (size_reached c (price c (list_at c p Fine)) also.size full.size also.greatest full.greatest))
     ∙ sym also.factor_is
 
+-- prices have one lift
 pub one_lift : (c : Chain) (p : PriceRows) (list other : Prices) → IsLift c p list → IsLift c p other → list ≡ other
 one_lift c p list other is also = is.list_is ∙ ap (lifted_list c p) (one_factor c p is.factor also.factor is.is_factor also.is_factor) ∙ sym also.list_is

@@ -28,6 +28,7 @@ at_end (y ∷ ys) x d (suc k) e = at_end ys x d k (omega arith)
 one_longer : {A : Type 0} (xs : List A) (x : A) (n : ℕ) → length xs ≡ n → length (xs ++ x ∷ []) ≡ n + 1
 one_longer xs x n e = length-append xs (x ∷ []) ∙ ap (λ (k : ℕ). k + 1) e
 
+-- a row of n entries and the next cell's number behind it are a row of n + 1
 pub entry_more : (t : Square Plain) (s n : ℕ) (row : List (Option ℤ)) (e : Option ℤ) → IsRowOf t s n row → e ≡ option_map number (cell t s n) → IsRowOf t s (n + 1) (row ++ e ∷ [])
 entry_more t s n row e before here =
     record {
@@ -40,11 +41,13 @@ entry_more t s n row e before here =
       ];
     }
 
+-- where the numbers of the cells are in the range of entries, so is the whole row
 pub row_small : (t : Square Plain) (s n : ℕ) (row : List (Option ℤ)) → IsRowOf t s n row → ((j : ℕ) → j < n → IsEntryInRange (option_map number (cell t s j))) → AllByRecursion IsEntryInRange row
 row_small t s n row is small =
     by_number IsEntryInRange None row
     (λ k inside. let within : k < n = omega (arith, is.len) in subst IsEntryInRange (sym (is.at k within)) (small k within))
 
+-- rows for each start are tables of this size
 pub rows_fit : (t : Square Plain) (n : ℕ) (tables : Tables) → t.side ≡ n → AreRowsOf t n tables → AreTablesOf n tables
 rows_fit t n tables side rows =
     record {
@@ -53,5 +56,6 @@ rows_fit t n tables side rows =
           (λ s inside. (rows.at s (omega (arith, rows.len))).len ∙ side);
     }
 
+-- and the entries of these tables are the numbers of the cells
 pub entry_is : (t : Square Plain) (n : ℕ) (tables : Tables) → t.side ≡ n → AreRowsOf t n tables → (s j : ℕ) → s < n → j < n → entry tables s j ≡ option_map number (cell t s j)
 entry_is t n tables side rows s j start place = (rows.at s start).at j (omega (arith, side, place))

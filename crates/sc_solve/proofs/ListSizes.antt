@@ -22,6 +22,7 @@ chosen_in_range : (b : Bool) (x y : ℤ) → IsPriceInRange x → IsPriceInRange
 chosen_in_range true x y h k = h
 chosen_in_range false x y h k = k
 
+-- a number read from a list of prices in range is in range, and 0 past its end is too
 pub at_in_range : (xs : List ℤ) (k : ℕ) → AllByRecursion IsPriceInRange xs → IsPriceInRange (get_or xs k (pos 0))
 at_in_range [] k all = zero_in_range
 at_in_range (x ∷ xs) zero all = all.0
@@ -39,6 +40,7 @@ module _ (c : Chain) (list : Prices) (small : IsSmallList list) where
   base_small : (j : ℕ) → IsPriceInRange (base_price c list j)
   base_small j = chosen_in_range (nat_eq j (first c (word_of c j))) _ _ (at_in_range list.base (word_of c j) small.base) zero_in_range
 
+  -- the price of a step is no larger than two of the greatest prices, so it fits
   pub price_small : (i j : ℕ) → IsOfPrices 2 (price c list i j)
   price_small i j = sum_of_two (pair_price c list (succ c i) j) (base_price c list j) (pair_small (succ c i) j) (base_small j)
 
@@ -53,6 +55,7 @@ module _ (c : Chain) (list : Prices) (small : IsSmallList list) where
       subst (λ (k : ℕ). IsOfPrices k (price c list i j +ℤ total_along (price c list) j js)) size
       (prices_add 2 (2 * length js) (price c list i j) (total_along (price c list) j js) (price_small i j) (total_small j js))
 
+  -- the total of a walk of at most 64 steps fits, and is in the range of entries
   pub total_fits : (i : ℕ) (js : List ℕ) → length js ≤ 64 → FitsSigned w128 (total_along (price c list) i js)
   total_fits i js short = prices_fit (2 * length js) (total_along (price c list) i js) (omega arith) (total_small i js)
 

@@ -81,6 +81,7 @@ step_levels_is c list i j =
       fine = price c (record { scale = pos 1; base = fine_again list.base k; pair = fine_again list.pair k }) i j;
     }
 
+-- a table with the steps' prices by the list's numbers as weights has the prices of the list
 pub steps_by_list : (c : Chain) (list : Prices) (t : Square Plain) (pair base : List Plain) → pair ≡ map plain list.pair → base ≡ map plain list.base → AreForChain c t
     → ((i j : ℕ) → IsStep c i j → price_in plain_levels t i j ≡ step_levels plain_levels c pair base i j) → AreListSteps c list t
 steps_by_list c list t pair base e f steps prices =
@@ -110,6 +111,7 @@ module _ (c : Chain) (list : Prices) (small : IsSmallList list) where
       first.outside (fits_at level (step_levels plain_levels c (map plain list.pair) (map plain list.base) i j) (price c list i j) (step_levels_is c list i j) (price_fits c list small i j))
   none_too_wide StepFaults.Memory is other = other refl
 
+  -- at the numbers of a small list no price of a step is refused but for want of memory
   pub no_step_fault : (pair base : List Plain) → pair ≡ map plain list.pair → base ≡ map plain list.base → (fault : StepFault) → IsStepFault plain_levels c pair base fault → fault ≢ StepFaults.Memory → ⊥
   no_step_fault pair base e f fault is other =
       none_too_wide fault
@@ -155,6 +157,7 @@ module _ (c : Chain) (list : Prices) (t : Square Plain) (own : AreListSteps c li
       λ k. record { bulk = bulk k; fine = fine k }
 
   -- ---- no polygon undercuts the scale of a covering list
+  -- at the prices of a list that covers the chain no polygon is below the scale
   pub no_cheap_polygon : Covers c list → (walk : List ℕ) → IsPolygonBelow c (price_in plain_levels t) (one_level list.scale) walk → ⊥
   no_cheap_polygon covers walk cheap =
       not_below (walk_total (price c list) walk) list.scale (covers walk cheap.polygon.closed)
@@ -162,6 +165,7 @@ module _ (c : Chain) (list : Prices) (t : Square Plain) (own : AreListSteps c li
 
   -- ---- no total is too wide
   module _ (small : IsSmallList list) (few : positions c ≤ 64) where
+    -- at the prices of a small list no total of a walk is too wide
     pub no_wide_walk : (walk : List ℕ) (level : Level) (wide : Operation) → IsWideWalk c (price_in plain_levels t) walk level wide → ⊥
     no_wide_walk walk level wide is =
         let whole = open_total-step (price_in plain_levels t) is.start is.front (end_of is.start is.front) is.last refl in
@@ -177,6 +181,7 @@ module _ (c : Chain) (list : Prices) (t : Square Plain) (own : AreListSteps c li
           let enough : pos 0 ≤ℤ walk_total (price c list) walk = omega (arith, ints, covers walk closed, small.scale.low) in
           subst (IsAtMost zero_levels) (sym (closed_is walk closed)) (at_most_from (pos 0) (walk_total (price c list) walk) enough)
 
+      -- the least total of walks from s to j is in the range of entries
       pub entry_small : (s j : ℕ) → s < positions c → (o : Option Plain) → IsLeastTotal c (price_in plain_levels t) s j (option_map plain_levels o) → IsEntryInRange (option_map number o)
       entry_small s j inside None least = tt
       entry_small s j inside (Some w) least =
@@ -192,6 +197,7 @@ module _ (c : Chain) (list : Prices) (t : Square Plain) (own : AreListSteps c li
           subst (λ (z : ℤ). IsEntryInRange (Some z)) same (total_in_range c list small s short.walk (omega (arith, short.short, few)))
 
   -- ---- from the totals to the numbers
+  -- the least total at the prices of the table is the least price of the list
   pub distance_is : (s j : ℕ) (o : Option Plain) → IsLeastTotal c (price_in plain_levels t) s j (option_map plain_levels o) → IsDistance c list s j (option_map number o)
   distance_is s j None none = none
   distance_is s j (Some w) least =
@@ -215,6 +221,7 @@ one_level_at None l e = absurd (cc)
 one_level_at (Some w) l e = let same : plain_levels w ≡ l = cc in sym same ∙ ap (λ (m : Levels). one_level m.fine) same
 
 module _ (c : Chain) (list : Prices) (t d : Square Plain) (tables : Tables) (own : AreListSteps c list t) (same : (s j : ℕ) → s < positions c → j < positions c → entry tables s j ≡ option_map number (cell d s j)) where
+  -- where totals vouch for the scale, the tables of their numbers vouch for the list
   pub vouch_is : VouchFor c (price_in plain_levels t) (one_level list.scale) (entry_in plain_levels d) → Vouch c list tables
   vouch_is v =
       record {
@@ -233,6 +240,7 @@ module _ (c : Chain) (list : Prices) (t d : Square Plain) (tables : Tables) (own
             (subst (λ (l : Levels). IsAtMost (one_level list.scale) (levels_sum (one_level a) l)) (own.same i s step) (v.returns s i (one_level a) inside step there)));
       }
 
+  -- and where the totals are least, these tables hold the least prices of walks
   pub distances_are : AreLeastTotals c (price_in plain_levels t) (entry_in plain_levels d) → AreDistances c list tables
   distances_are least s j start place =
       subst (IsDistance c list s j) (sym (same s j start place)) (distance_is c list t own s j (cell d s j) (least s j start place))

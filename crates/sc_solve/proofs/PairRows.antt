@@ -14,6 +14,7 @@ pair_inside c ps row r es e inside =
     let pair : IsInversePair c r.0 r.1 = subst (λ (x : ℕ × ℕ). IsInversePair c x.0 x.1) (sym at) (inverse_at c row here) in
     (omega (arith, pair.ordered, pair.in_range), pair.in_range)
 
+-- in the row of a pair p, q a column has the steps from before p to q minus those from before q to p
 pub entry_of_pair : (c : Chain) (walk : List ℕ) (ps : List (ℕ × ℕ)) (row : ℕ) (r : ℕ × ℕ) → ps ≡ pairs c → r ≡ get_or ps row (0, 0) → row < length ps → column c walk row ≡ steps_of walk (prev c r.0) r.1 -ℤ steps_of walk (prev c r.1) r.0
 entry_of_pair c walk ps row r es e inside =
     let at : r ≡ get_or (pairs c) row (0, 0) = e ∙ ap (λ (qs : List (ℕ × ℕ)). get_or qs row (0, 0)) es in

@@ -51,6 +51,7 @@ no_times d n x e = mul-zero d ∙ sym (ap (λ (y : ℤ). n *ℤ y) e ∙ mul-zer
 abbrev pub HaveUnitsNone : Chain → BasisNumbers → ℕ → List (Option (List ℕ)) → Type 0
 HaveUnitsNone c t i items = (k j : ℕ) → j ≡ i + k → k < length items → get_or items k None ≡ None → value (rows c) (right_side c) t j ≡ pos 0
 
+-- the count in each row, times the row's denominator, is n times the value of the row
 pub multiples_from : (c : Chain) (t : BasisNumbers) (n i : ℕ) (items : List (Option (List ℕ))) (parts : List Part) (counts : List ℕ) → ArePartsFrom c t i items parts → AreCounts n parts counts → HaveUnitsNone c t i items
     → (k j : ℕ) → j ≡ i + k → k < length items → t.denominator j *ℤ times items counts k ≡ pos n *ℤ value (rows c) (right_side c) t j
 multiples_from c t n i [] parts counts are those units k j e inside = absurd (omega arith)
@@ -78,6 +79,7 @@ nothing_first f s = nothing s ∙ ap (λ (x : ℤ). x +ℤ s) (sym (zero-mul f))
     nothing : (x : ℤ) → x ≡ pos 0 +ℤ x
     nothing x = omega (arith, ints)
 
+-- a sum over the parts, each as often as its count says, is the same sum over the rows
 pub weighed_by_rows : (c : Chain) (t : BasisNumbers) (H : List ℕ → ℤ) (F : ℕ → ℤ) (n i : ℕ) (items : List (Option (List ℕ))) (parts : List Part) (counts : List ℕ) → ArePartsFrom c t i items parts → AreCounts n parts counts
     → ((k : ℕ) (walk : List ℕ) → k < length items → get_or items k None ≡ Some walk → F k ≡ H walk)
     → weighed H (counted parts counts) ≡ sum_below (λ k. times items counts k *ℤ F k) (length items)
@@ -94,10 +96,12 @@ weighed_by_rows c t H F n i (Some walk ∷ items) (p ∷ parts) (m ∷ counts) a
     (weighed_by_rows c t H (λ k. F (suc k)) n (suc i) items parts counts are.2 those.1 (λ k w inside at. same (suc k) w (omega arith) at))
     ∙ sym (sum_first (λ k. times (Some walk ∷ items) (m ∷ counts) k *ℤ F k) (length items))
 
+-- the column of parts is such a sum
 pub column_weighed : (c : Chain) (parts : Parts) (k : ℕ) → parts_column c parts k ≡ weighed (λ walk. column c walk k) parts
 column_weighed c [] k = refl
 column_weighed c (p ∷ parts) k = ap (λ (x : ℤ). pos p.1 *ℤ column c p.0 k +ℤ x) (column_weighed c parts k)
 
+-- and so is how many polygons there are
 pub sum_weighed : (n : ℕ) (parts : List Part) (counts : List ℕ) → AreCounts n parts counts → weighed (λ walk. pos 1) (counted parts counts) ≡ pos (sum counts)
 sum_weighed n [] [] those = refl
 sum_weighed n [] (m ∷ counts) those = absurd those

@@ -28,6 +28,7 @@ use Rattle.sc_solve.proofs.PolygonPrices.{improves_from}
 
 -- two prices that are the same on the steps of a chain
 module _ (c : Chain) (f g : ℕ → ℕ → Levels) (same : (i j : ℕ) → IsStep c i j → f i j ≡ g i j) where
+  -- they give each closed walk one total, so what is known of the totals at one holds at the other
   pub closed_same : (walk : List ℕ) → IsClosedWalk c walk → closed_total f walk ≡ closed_total g walk
   closed_same walk closed =
       let bulk = walk_total-congr c (bulk_of f) (bulk_of g) (λ i j step. ap (λ (l : Levels). l.bulk) (same i j step)) walk closed in
@@ -65,10 +66,12 @@ module _ (c : Chain) (f g : ℕ → ℕ → Levels) (same : (i j : ℕ) → IsSt
         is.evidence;
   }
 
+-- and what a search answers is the same at both
 pub match_same : (c : Chain) (f g : ℕ → ℕ → Levels) (t : Levels) → ((i j : ℕ) → IsStep c i j → f i j ≡ g i j) → (o : Option (List ℕ)) → MatchCheap c f t o → MatchCheap c g t o
 match_same c f g t same (Some walk) is = below_same c f g same t walk is
 match_same c f g t same None is = all_same c f g same t is
 
+-- a table's fault at the prices of the rows is told as a refusal of the search
 pub table_fault_is : (c : Chain) (p : PriceRows) (f : ℕ → ℕ → Levels) → ((i j : ℕ) → IsStep c i j → f i j ≡ price_levels c p i j) → (fault : TableFault) → IsTableFault c f fault → IsWideBy (IsWideSearch c p) (refusal_of_table fault)
 table_fault_is c p f same (TableWide walk level wide) is = inr (record {
   level = level;

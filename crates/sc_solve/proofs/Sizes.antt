@@ -12,6 +12,7 @@ use Rattle.sc_rows.specs.declared.fault.Place.TheVariants.{LiftTurn}
 use Rattle.sc_rows.specs.declared.fault.WideAt.{WideAt}
 use Rattle.sc_solve.specs.Lifts.{IsWideTurned, IsGreatestSize, IsGreatestBefore, IsSizeOfStep}
 
+-- at a step the size of the cell is the size of the step's price
 pub size_of_step : (c : Chain) (price : ℕ → ℕ → ℤ) (from to : ℕ) (z size : ℤ) → IsStep c from to → z ≡ price from to → size ≡ pos (unsigned_abs z) → IsSizeOfStep c price from to size
 size_of_step c price from to z size step e is = record {
   on = λ _. is ∙ ap (λ (y : ℤ). pos (unsigned_abs y)) e;
@@ -19,6 +20,7 @@ size_of_step c price from to z size step e is = record {
   decided = inl step;
 }
 
+-- where 0 minus a number fits, its negative does
 pub turned_fits : (z : ℤ) → FitsSigned w128 (pos 0 -ℤ z) → FitsSigned w128 (neg_ℤ z)
 turned_fits z fits = subst (FitsSigned w128) (same z) fits
   where
@@ -72,9 +74,11 @@ module _ (c : Chain) (price : ℕ → ℕ → ℤ) (n side : ℕ) (s : ℤ) (sid
     reached_by (inl step) (inr e) = inr (n / side, n % side, step, e ∙ is.on step)
     reached_by (inr none) (inr e) = inl (e ∙ is.off none)
 
+    -- a greater of the two is the greatest size up to the next cell
     pub next_cell : (new ≡ g) ⊎ (new ≡ s) → IsGreatestBefore c price (n + 1) new
     next_cell one = record { low = low_after; high = high_after; reached = reached_by is.decided one }
 
+-- the greatest size up to the last cell is that of all steps
 pub all_cells : (c : Chain) (price : ℕ → ℕ → ℤ) (side n : ℕ) (g : ℤ) → side ≡ positions c → side * side ≤ n → IsGreatestBefore c price n g → IsGreatestSize c price g
 all_cells c price side n g side_is all before = record {
   low = λ i j step. before.low i j step (omega (arith, mul-add-lt i (positions c) j (positions c) step.from step.to, square));
@@ -87,6 +91,7 @@ all_cells c price side n g side_is all before = record {
 
 -- ---- at prices that are the same on the steps
 module _ (c : Chain) (f g : ℕ → ℕ → ℤ) (same : (i j : ℕ) → IsStep c i j → f i j ≡ g i j) where
+  -- the greatest size of a step's price is the same, and so is what is too wide to be turned
   pub greatest_same : (size : ℤ) → IsGreatestSize c f size → IsGreatestSize c g size
   greatest_same size is = record {
     low = λ i j step. subst (λ (z : ℤ). neg_ℤ size ≤ℤ z) (same i j step) (is.low i j step);

@@ -55,6 +55,7 @@ module _ (c : Chain) (p : PriceRows) (pair base : List Pair) (pair_is : pair ≡
   base_at_level Bulk j = same_base_price c (pos 1) p.bulk.scale _ (list_at c p Bulk).base [] (list_at c p Bulk).pair j (base_numbers Bulk)
   base_at_level Fine j = same_base_price c (pos 1) p.fine.scale _ (list_at c p Fine).base [] (list_at c p Fine).pair j (base_numbers Fine)
 
+  -- the price of a step by the pairs of the rows' prices is its price at both levels
   pub step_is : (i j : ℕ) → step_levels levels_of c pair base i j ≡ price_levels c p i j
   step_is i j =
       let bulk : pair_price c (table_list levels_of pair base Bulk) (succ c i) j +ℤ base_price c (table_list levels_of pair base Bulk) j ≡ price c (list_at c p Bulk) i j =
@@ -92,6 +93,7 @@ module _ (c : Chain) (p : PriceRows) (pair base : List Pair) (pair_is : pair ≡
   summed Bulk x y = refl
   summed Fine x y = refl
 
+  -- what is too wide in the price of a step is told as a refusal
   pub fault_is : (fault : StepFault) → IsStepFault levels_of c pair base fault → IsWideBy (IsWidePrice c p) (refusal_of_step fault)
   fault_is (Turn row level wide) (w, here, is) =
       let number = row_number level row w here in

@@ -27,6 +27,8 @@ bound_of_lift c p factor none =
     ∙ left_alone (bound c (list_at c p Fine)) (bound c (list_at c p Bulk)) factor (sym (right_side_total c (entries_of p.bulk) p.bulk.scale) ∙ none)
     ∙ sym (right_side_total c (entries_of p.fine) p.fine.scale)
 
+-- where the right side has no bulk price, and n times its fine price is the scale for each vertex, the lift is tight:
+-- its scale times the vertices is n times its bound
 pub lift_is_tight : (c : Chain) (p : PriceRows) (list : Prices) (n vertices : ℕ) → IsLift c p list → dot (rows c) (entries_of p.bulk) (right_side c) ≡ pos 0
     → pos n *ℤ dot (rows c) (entries_of p.fine) (right_side c) ≡ p.fine.scale *ℤ pos vertices → list.scale *ℤ pos vertices ≡ pos n *ℤ bound c list
 lift_is_tight c p list n vertices lift none price =

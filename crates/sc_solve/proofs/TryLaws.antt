@@ -21,6 +21,7 @@ module _ (c : Chain) (most budget : ℕ) (few : most ≤ budget) where
   journal_within : (js : List Pivot) → IsJournalOf c most js → IsJournalOf c budget js
   journal_within js is = record { polygons = is.polygons; lawful = is.lawful; rises = is.rises; within = omega (arith, is.within, few) }
 
+  -- a solution within few pivots is one within the budget, and so is what stops the search
   pub solution_within : (s : Solution) → IsSolution c most s → IsSolution c budget s
   solution_within s is =
       record {

@@ -162,6 +162,7 @@ pub(crate) fn surface_of(
 {
     let items = last_polygons(alloc, values.len(), journal)?;
     let parts = valued_parts(alloc, items.as_slice(), values)?;
+    // `glued` takes the parts, and a fault tells one of them.
     let spare = copied(alloc, parts.as_slice())?;
     match glued(alloc, chain, parts) {
         Ok(fatgraph) => Ok(fatgraph),

@@ -40,6 +40,7 @@ pub(crate) struct Ending {
 pub(crate) fn check_chain(chain: &Chain)
     ensures { IsSmallChain chain.now }
 {
+    // The call is for its contract alone: by it the prover knows what the chain's invariant says.
     let _words = chain.words();
 }
 

@@ -16,6 +16,7 @@ pub(crate) fn polygon_of(chain: &Chain, key: Vec<u32>) -> Polygon
 {
     match Polygon::of(chain, key) {
         Some(polygon) => polygon,
+        // The key is a polygon, as the contract demands; that this arm is never reached is proved.
         None => unreachable!(),
     }
 }

@@ -59,6 +59,7 @@ fn candidate_at(
 ) -> Result<Vec<Polygon>, AllocError>
     ensures { IfOk result (λ tried. AllByRecursion (IsPolygon chain.now) tried.items) }
 {
+    // A list of one polygon or none, since the searches go through a list.
     let mut tried = Vec::new(alloc);
     if let Some(polygon) = candidates.improving(alloc, chain, prices)? {
         tried.push(polygon)?;

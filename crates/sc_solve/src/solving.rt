@@ -54,6 +54,7 @@ fn unglued(journal: Vec<Pivot>, stop: PartStop) -> SolveFault
 fn check_list(list: &PriceList)
     ensures { IsSmallList list.now }
 {
+    // For its contract alone, as in `check_chain`.
     let _scale = list.scale();
 }
 
@@ -61,6 +62,7 @@ fn check_list(list: &PriceList)
 fn check_tables(tables: &Tables)
     ensures { AreSmallTables tables.now }
 {
+    // For its contract alone, as in `check_chain`.
     let _rows = tables.rows();
 }
 

@@ -44,6 +44,7 @@ fn list_steps(
         Ok(prices) => Ok(prices),
         Err(fault) => match fault {
             StepFault::Memory => Err(AllocError),
+            // The prices of a list are so small that those of its steps fit.
             _ => unreachable!(),
         },
     }
@@ -67,10 +68,12 @@ fn least_totals(
     match cheap_polygon(alloc, chain, prices, &Plain(list.scale())) {
         Ok(found) => match found {
             Found::Tables(distances) => Ok(distances),
+            // The list covers, so no polygon costs less than its scale.
             Found::Polygon(_) => unreachable!(),
         },
         Err(fault) => match fault {
             TableFault::Memory => Err(AllocError),
+            // Totals of so few steps at so small prices fit.
             TableFault::Wide { .. } => unreachable!(),
         },
     }

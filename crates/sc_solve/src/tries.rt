@@ -50,6 +50,7 @@ fn sum_of(values: &[Frac]) -> Option<Frac> {
 /// half the denominator of its value, or of the denominator where that is odd.
 fn is_forced(chain: &Chain, vertices: &Frac) -> bool {
     let length = i128::from(chain.length());
+    // Nothing bounds the values here, and no contract speaks of the answer, so what doesn't fit is cut off.
     let edges = length.saturating_mul(vertices.den());
     let cost = edges.saturating_sub(vertices.num().saturating_mul(2));
     let whole = vertices.den().saturating_mul(4);

@@ -25,6 +25,7 @@ append_nil [] = refl
 append_nil (x ∷ xs) = ap (λ (ys : List ℕ). x ∷ ys) (append_nil xs)
 
 -- ---- lines of the numbers that pass a test
+-- a number that passes has its lines behind those before, and one that fails has none
 pub lines_pass : (f : ℕ → List ℕ) (test : ℕ → Bool) (s : ℕ) (old out out' : List ℕ) → test s ≡ true → out ≡ old ++ flat_map f (list_below test s) → out' ≡ out ++ f s → out' ≡ old ++ flat_map f (list_below test (s + 1))
 lines_pass f test s old out out' e before more =
     let all : flat_map f (list_below test (s + 1)) ≡ flat_map f (list_below test s) ++ f s =
@@ -74,6 +75,7 @@ lasts_inside t n p order xs lasts least are h s l own =
     let yes_least : is_least_for t n s ≡ true = sym (are s l) ∙ eq-eqb (entry least s) s own in
     rw (h.lasts_are s l yes_least) (iterate_below t n p (pred (orbit_size t n s)) s l)
 
+-- head, vertices, edges, letters and the last line, one behind another, are the drawing
 pub drawn : (c : Chain) (g : Sides) (order xs lasts least : List ℕ) (b : ℕ) (o1 o2 o3 o4 o5 : List ℕ) → AreLeastOfOrbits (turn g) (length g) least → AreLaidBelow (turn g) (length g) (length g) order xs lasts → b ≡ base g
     → o1 ≡ head_line (20 * (length g + vertices g) + 20) (b + 24)
     → o2 ≡ o1 ++ flat_map (λ r. vertex_line (entry xs r) (entry xs (entry lasts r)) b) (list_below (is_own least) (length g))

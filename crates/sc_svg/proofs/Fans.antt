@@ -9,12 +9,14 @@ use Rattle.sc_svg.specs.declared.spot.Spot.{Spot}
 use Rattle.sc_svg.specs.Points.{cut}
 use Rattle.sc_svg.specs.Fans.{point_of, edge_lines, edges_from, edges_of}
 
+-- the products by which a point is cut are small
 pub small_product : (z den under : ℕ) → z ≤ 1048576 → den ≤ 2147483647 → under < 2 ^ 31 → z * (900 * den * under) < 2 ^ 100
 small_product z den under h k l =
     let p = mul-le-mul {n₁ = den} {m₁ = under} {n₂ = 2147483647} {m₂ = 2147483648} k (omega (arith, l)) in
     let q = mul-le-mul {n₁ = z} {m₁ = 900 * den * under} {n₂ = 1048576} {m₂ = 900 * (2147483647 * 2147483648)} h (omega (arith, p)) in
     omega (arith, q)
 
+-- a point with numbers that are known by equations is the corner's
 pub point_is : (k : Extent) (c : Spot) (x y : ℤ) (den num : ℕ) → den ≡ unsigned_abs c.den → num ≡ unsigned_abs c.num → x ≡ cut c.s (900 * den * k.under) (num * k.over) → y ≡ neg_ℤ (cut c.t (900 * den * k.under) (num * k.over)) → ◌≡◌ {A = Point} (record { x = x; y = y }) (point_of k c)
 point_is k c x y den num d n ex ey =
     let all_x : x ≡ cut c.s (900 * unsigned_abs c.den * k.under) (unsigned_abs c.num * k.over) = ex ∙ (λ i. cut c.s (900 * d i * k.under) (n i * k.over)) in
@@ -41,5 +43,6 @@ pub at_other : (P : Spot → Type 0) (corners : List Spot) (i : ℕ) (c : Spot) 
 at_other P corners i c all inside at =
     subst P (sym at) (All-get_or P (take (length corners - 1) (drop 1 corners)) i c inside (All-take P (length corners - 1) (drop 1 corners) (All-drop P 1 corners all)))
 
+-- and at the first
 pub at_first : (P : Spot → Type 0) (corners : List Spot) (c : Spot) → All P corners → 1 ≤ length corners → c ≡ get_or corners 0 c → P c
 at_first P corners c all some at = subst P (sym at) (All-get_or P corners 0 c some all)

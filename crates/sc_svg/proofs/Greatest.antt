@@ -34,6 +34,7 @@ module _ (corners : List Spot) (i : ℕ) (c : Spot) (k size : Extent) (inside : 
   more : take (i + 1) corners ≡ take i corners ++ c ∷ []
   more = take_more corners i c inside ∙ ap (λ (d : Spot). take i corners ++ d ∷ []) (sym here)
 
+  -- a corner without a point, or no larger than the greatest before, leaves it as it is
   pub greatest_stays : IsGreatest (take i corners) k → (has_point c ≡ true → size.over * k.under ≤ k.over * size.under) → IsGreatest (take (i + 1) corners) k
   greatest_stays h most = subst (λ (ds : List Spot). IsGreatest ds k) (sym more) (record {
     fraction = h.fraction;
@@ -48,6 +49,7 @@ module _ (corners : List Spot) (i : ℕ) (c : Spot) (k size : Extent) (inside : 
   grown h greater d most pointed =
       at_most_through (size_of d).over (size_of d).under k.over k.under (size_of c).over (size_of c).under h.fraction (most pointed) (omega (arith, greater))
 
+  -- a corner that is larger has the greatest size
   pub greatest_next : IsGreatest (take i corners) k → has_point c ≡ true → k.over * size.under < size.over * k.under → IsGreatest (take (i + 1) corners) size
   greatest_next h pointed greater =
       let more_than : k.over * (size_of c).under < (size_of c).over * k.under = subst (λ (x : Extent). k.over * x.under < x.over * k.under) of greater in
@@ -64,6 +66,7 @@ module _ (corners : List Spot) (i : ℕ) (c : Spot) (k size : Extent) (inside : 
 some_product : (a b : ℕ) → 0 < a → 0 < b → 0 < a * b
 some_product a b h k = omega (arith, mul-le-mul {n₁ = 1} {m₁ = 1} {n₂ = a} {m₂ = b} h k)
 
+-- where a corner with a point is at most the greatest size, this isn't 0
 pub some_size : (k : Extent) (c : Spot) → 0 < k.under → (has_point c ≡ true → IsAtMost (size_of c) k) → has_point c ≡ true → 0 < k.over
 some_size k c under most pointed =
     let wide : 0 < breadth c = omega (arith, c.somewhere) in
@@ -74,5 +77,6 @@ some_size k c under most pointed =
       | inr none ↦ let over : k.over ≡ 0 = omega (arith, none) in absurd (omega (arith, left, most pointed, ap (λ (n : ℕ). n * unsigned_abs c.num) over))
     ]
 
+-- so at each corner with a point the greatest size isn't 0
 pub some_sizes : (corners : List Spot) (k : Extent) → IsGreatest corners k → All (λ c. has_point c ≡ true → 0 < k.over) corners
 some_sizes corners k h = All-weaker (λ c. has_point c ≡ true → IsAtMost (size_of c) k) (λ c. has_point c ≡ true → 0 < k.over) (λ c. some_size k c h.fraction) corners h.greatest

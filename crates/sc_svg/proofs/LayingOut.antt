@@ -38,6 +38,7 @@ module _ (t : ℕ → ℕ) (n : ℕ) (p : IsPermutation t n) (start : ℕ) (ls :
       w.others side (λ j b e. iterates_apart t n p start j w.steps ls w.apart b (e ∙ w.side_is))
       ∙ ap (entry xs) w.side_is ∙ h.free w.steps
 
+  -- the side that is due is one
   pub side_below : (side : ℕ) (order' xs' : List ℕ) → LaysTo t n start order xs side order' xs' → side < n
   side_below side order' xs' w = rw w.side_is (iterate_below t n p w.steps start ls)
 
@@ -50,6 +51,7 @@ module _ (t : ℕ → ℕ) (n : ℕ) (p : IsPermutation t n) (start : ℕ) (ls :
       let now : (x == 0) ≡ false = ne_eqb x 0 (λ e. omega (arith, positive, e)) in
       omega (arith, rw (was, now) at sum)
 
+  -- and the order has room for it
   pub room_left : (side : ℕ) (order' xs' : List ℕ) → LaysTo t n start order xs side order' xs' → length order' < n
   room_left side order' xs' w = omega (arith, fewer side order' xs' 1 w (omega arith), w.room)
 
@@ -96,6 +98,7 @@ module _ (t : ℕ → ℕ) (n : ℕ) (p : IsPermutation t n) (start : ℕ) (ls :
             rw get_or-set_other (w.others u (λ j c. differ j (omega (arith, c))));
       }
 
+  -- a side whose next isn't the first one is laid, and the next is due
   pub lays_on : (side next : ℕ) (order' xs' : List ℕ) (x : ℕ) → LaysTo t n start order xs side order' xs' → x ≡ 20 * (length order' + 1 + count_below (is_least_for t n) start) → next ≡ t side → next ≢ start → LaysTo t n start order xs next (order' ++ side ∷ []) (set xs' side x)
   lays_on side next order' xs' x w is step differ =
       let l = lay_one side order' xs' x w is in
@@ -111,6 +114,7 @@ module _ (t : ℕ → ℕ) (n : ℕ) (p : IsPermutation t n) (start : ℕ) (ls :
         others = l.others;
       }
 
+  -- with a side whose next is the first one the orbit is laid
   pub lays_end : (side next : ℕ) (order' xs' : List ℕ) (x : ℕ) → LaysTo t n start order xs side order' xs' → x ≡ 20 * (length order' + 1 + count_below (is_least_for t n) start) → next ≡ t side → next ≡ start → LaysOrbit t n start order xs side (order' ++ side ∷ []) (set xs' side x)
   lays_end side next order' xs' x w is step same =
       let l = lay_one side order' xs' x w is in
@@ -124,6 +128,7 @@ module _ (t : ℕ → ℕ) (n : ℕ) (p : IsPermutation t n) (start : ℕ) (ls :
       }
 
 -- ---- all vertices
+-- before a least side the orbits before it are laid out, and no side of its own
 pub laid_to : (t : ℕ → ℕ) (n : ℕ) → IsPermutation t n → (start : ℕ) (order xs lasts : List ℕ) → start < n → is_least_for t n start ≡ true → AreLaidBelow t n start order xs lasts → IsLaidTo t n start order xs
 laid_to t n p start order xs lasts l least h = record {
   as_many = h.as_many;
@@ -132,6 +137,7 @@ laid_to t n p start order xs lasts l least h = record {
   free = λ i. h.free (iterate t i start) (iterate_below t n p i start l) (λ q j b. orbits_apart t n p q start j i (omega (arith, b, l)) l least b);
 }
 
+-- a side that isn't the least of its orbit adds nothing
 pub laid_stay : (t : ℕ → ℕ) (n start : ℕ) (order xs lasts : List ℕ) → is_least_for t n start ≡ false → AreLaidBelow t n start order xs lasts → AreLaidBelow t n (start + 1) order xs lasts
 laid_stay t n start order xs lasts other h =
     let before : (q : ℕ) → q < start + 1 → is_least_for t n q ≡ true → q < start =
@@ -146,6 +152,7 @@ laid_stay t n start order xs lasts other h =
       lasts_are = λ q b e. h.lasts_are q (before q b e) e;
     }
 
+-- with the orbit of a least side one orbit more is laid out
 pub laid_more : (t : ℕ → ℕ) (n : ℕ) → IsPermutation t n → (start : ℕ) (order xs lasts : List ℕ) (last : ℕ) (order' xs' : List ℕ) → start < n → is_least_for t n start ≡ true → AreLaidBelow t n start order xs lasts → length xs' ≡ length xs → LaysOrbit t n start order xs last order' xs' → AreLaidBelow t n (start + 1) order' xs' (set lasts start last)
 laid_more t n p start order xs lasts last order' xs' l least h same w =
     let inside : start < length lasts = omega (arith, l, h.as_many_lasts) in
@@ -170,6 +177,7 @@ laid_more t n p start order xs lasts last order' xs' l least h same w =
     }
 
 -- ---- how many vertices there are
+-- a number that passes is counted, and one that fails isn't
 pub counted_more : (test : ℕ → Bool) (s v : ℕ) → test s ≡ true → v ≡ count_below test s → v + 1 ≡ count_below test (s + 1)
 counted_more test s v e h = rw (add-one s, e) (ap (λ (k : ℕ). k + 1) h)
 

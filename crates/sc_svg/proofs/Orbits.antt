@@ -18,6 +18,7 @@ use Rattle.sc_shape.proofs.OrbitLeasts.{orbit_returns, iterate_below}
 use Rattle.sc_svg.specs.Layout.{is_apart, orbit_size, sides_along, order_below}
 
 -- ---- different orbits
+-- orbits of two least numbers have no number in common
 pub orbits_apart : (t : ℕ → ℕ) (n : ℕ) → IsPermutation t n → (q start i j : ℕ) → q < n → start < n → is_least_for t n start ≡ true → q < start → iterate t i q ≢ iterate t j start
 orbits_apart t n p q start i j lq ls least before e =
     let back = orbit_returns t n p i q lq in
@@ -25,6 +26,7 @@ orbits_apart t n p q start i j lq ls least before e =
     omega (arith, least_means_least p start ls least (back.0 + j), there, before)
 
 -- ---- one orbit
+-- where the test of k steps passes, none of them comes back
 pub apart_at : (t : ℕ → ℕ) (k s j : ℕ) → is_apart t k s ≡ true → 0 < j → j ≤ k → iterate t j s ≢ s
 apart_at t zero s j a pos_j l e = omega (arith, pos_j, l)
 apart_at t (suc k) s j a pos_j l e =
@@ -38,6 +40,7 @@ apart_at t (suc k) s j a pos_j l e =
           false≢true (sym no_more ∙ both.1)
     ]
 
+-- where it passes and the next step doesn't come back, the test of k + 1 steps passes
 pub apart_next : (t : ℕ → ℕ) (k s : ℕ) → is_apart t k s ≡ true → t (iterate t k s) ≢ s → is_apart t (suc k) s ≡ true
 apart_next t k s a differ =
     let other : iterate t (suc k) s ≢ s = λ e. differ (sym (iterate-last t k s) ∙ e) in
@@ -90,6 +93,7 @@ pub length-along : (t : ℕ → ℕ) (k s : ℕ) → length (sides_along t k s) 
 length-along t zero s = refl
 length-along t (suc k) s = ap suc (length-along t k (t s))
 
+-- one side more along an orbit is the next iterate, behind the others
 pub along_last : (t : ℕ → ℕ) (k s : ℕ) → sides_along t (suc k) s ≡ sides_along t k s ++ iterate t k s ∷ []
 along_last t zero s = refl
 along_last t (suc k) s = ap (λ (xs : List ℕ). s ∷ xs) (along_last t k (t s))
@@ -100,6 +104,7 @@ along_at t (suc k) s zero l = refl
 along_at t (suc k) s (suc i) l = along_at t k (t s) i (omega (arith, l))
 
 -- ---- the order
+-- a least number has its orbit behind those before, and any other adds nothing
 pub order_passes : (t : ℕ → ℕ) (n r : ℕ) → is_least_for t n r ≡ true → order_below t n (suc r) ≡ order_below t n r ++ sides_along t (orbit_size t n r) r
 order_passes t n r e =
     let f : ℕ → List ℕ = λ q. sides_along t (orbit_size t n q) q in
@@ -114,6 +119,7 @@ order_passes t n r e =
 pub order_fails : (t : ℕ → ℕ) (n r : ℕ) → is_least_for t n r ≡ false → order_below t n (suc r) ≡ order_below t n r
 order_fails t n r e = ap (λ (xs : List ℕ). flat_map (λ q. sides_along t (orbit_size t n q) q) xs) (list_fails (is_least_for t n) r e)
 
+-- what stands in the order is below n
 pub order_inside : (t : ℕ → ℕ) (n : ℕ) → IsPermutation t n → (r : ℕ) → r ≤ n → (k : ℕ) → k < length (order_below t n r) → entry (order_below t n r) k < n
 order_inside t n p zero l k b = absurd (omega (arith, b))
 order_inside t n p (suc r) l k b =
