@@ -17,8 +17,6 @@ mod pricing;
 mod search;
 mod steps;
 mod surface;
-#[cfg(test)]
-mod tests;
 
 pub use advice::{Advice, advise};
 pub use mode::Mode;

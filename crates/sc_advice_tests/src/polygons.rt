@@ -1,11 +1,12 @@
+//! The polygons that are advised for small chains, and the estimates of their greatest sums.
+
 ghost use Rattle.std.specs.Prelude.{◌<◌, ◌≤◌, ◌^◌, length, IfOk};
 ghost use Rattle.std.specs.List.{All};
 ghost use Rattle.sc_theory.specs.Chains.{positions};
 ghost use Rattle.sc_chain.specs.Faults.{AreGenerators};
 ghost use Rattle.sc_chain.specs.declared.limits.TheConstants.{GENERATORS};
 
-use super::*;
-use crate::fixed::ONE;
+use sc_advice::{Mode, advise};
 use sc_chain::{Chain, Polygon, Word, letters_of};
 use std::alloc::{AllocError, Global};
 use std::test::Fail;
@@ -73,8 +74,8 @@ fn counts(alloc: Global, text: &[u8], weight: u32, mode: Mode) -> Result<[usize;
 
 const SIXTY_FOUR: &[u8; 64] = b"BAbbaBBaabbbaBAbaBAAAbAAABaBAAbaBBaaBAbAbaBaabAbABBAbAAABabaaaaa";
 
-// Each list of advice holds polygons of the chain alone, and where the chain is balanced there are some, unless a step takes off
-// more than all that a polygon is worth.
+// Each list of advice holds polygons of the chain alone, and where the chain is balanced there are some, unless a step
+// takes off more than all that a polygon is worth.
 #[test]
 fn polygons_of_chains(rt: HostRuntime) -> Result<(), Fail> {
     let alloc = rt.alloc();
@@ -109,6 +110,9 @@ fn polygons_of_chains(rt: HostRuntime) -> Result<(), Fail> {
     }
     Ok(())
 }
+
+// The number 1 with the 32 bits behind the point that an estimate has.
+const ONE: i64 = 1 << 32;
 
 // Whether the estimate for a chain is within a ten thousandth of a fraction.
 fn is_near(alloc: Global, text: &[u8], numerator: i64, denominator: i64) -> Result<bool, Fail> {
