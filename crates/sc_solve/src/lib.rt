@@ -14,8 +14,6 @@ mod searching;
 mod solution;
 mod solving;
 mod tabling;
-#[cfg(test)]
-mod tests;
 mod tries;
 
 pub use columns::{column_of, right_side_of};

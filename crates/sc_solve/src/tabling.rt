@@ -135,6 +135,3 @@ pub fn tables_of(
     let tables = rows_of(alloc, &distances, positions as u32)?;
     Ok(tables)
 }
-
-#[cfg(test)]
-mod tests;

@@ -1,7 +1,10 @@
 //! The tables of lists whose least totals were worked out by hand.
 
-use super::*;
+use sc_certificate::Tables;
+use sc_chain::Pairs;
 use sc_prices::{Certificate, vouch};
+use sc_solve::tables_of;
+use std::alloc::{AllocError, Global};
 use std::test::Fail;
 
 /// A text in parts.

@@ -1,3 +1,5 @@
+//! Prices that are lifted, and what the oracle answers at prices.
+
 ghost use Rattle.std.specs.Prelude.{◌≡◌, pos, ◌<◌, ◌≤◌, ◌^◌, length, IfOk};
 ghost use Rattle.std.specs.List.{All};
 ghost use Rattle.sc_theory.specs.Chains.{positions};
@@ -7,12 +9,12 @@ ghost use Rattle.sc_chain.specs.Faults.{AreGenerators};
 ghost use Rattle.sc_chain.specs.declared.limits.TheConstants.{GENERATORS};
 ghost use Rattle.sc_rows.specs.Standing.{ArePrices};
 
-use super::*;
 use sc_candidates::Candidates;
 use sc_certificate::PriceList;
 use sc_chain::{Chain, Pairs, Word, letters_of};
 use sc_rows::{Place, PriceRow, PriceRows};
 use sc_simplex::{Answer, Oracle};
+use sc_solve::{LiftFault, PolygonOracle, lift};
 use sc_whole::{Op, Wide};
 use std::alloc::{AllocError, Global};
 use std::test::Fail;

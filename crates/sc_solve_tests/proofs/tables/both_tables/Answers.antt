@@ -1,7 +1,7 @@
 use Rattle.std.proofs.Common.{pos, ◌<ℤ◌, arith, refl}
 use Rattle.std.proofs.lemmas.Int.{ints}
 use Rattle.sc_theory.proofs.Vouching.{covers}
-use Rattle.sc_solve.proofs.tabling.tests.both_tables.Goals as goal
+use Rattle.sc_solve_tests.proofs.tables.both_tables.Goals as goal
 
 pub tables_of-requires-clause-covers : goal.tables_of-requires-clause-covers
 tables_of-requires-clause-covers c =
