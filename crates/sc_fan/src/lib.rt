@@ -21,6 +21,3 @@ pub use laws::{
     printed_fans_are_read,
 };
 pub use sc_cone::Direction;
-
-#[cfg(test)]
-mod tests;

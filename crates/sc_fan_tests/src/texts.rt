@@ -1,6 +1,6 @@
 //! Lines of corners, a fan that is read and printed, and what is wrong with other texts.
 
-use super::*;
+use sc_fan::{Direction, Fan, corner_line, print_corner_line};
 use sc_line::{Kind, TextFault};
 use std::alloc::AllocError;
 use std::test::Fail;
