@@ -7,8 +7,6 @@ mod arcs;
 mod fault;
 mod searching;
 mod solved;
-#[cfg(test)]
-mod tests;
 mod unit_ball;
 
 pub use fault::BallFault;

@@ -6,7 +6,7 @@ ghost use Rattle.sc_theory.specs.Chains.{positions};
 ghost use Rattle.sc_chain.specs.Faults.{AreGenerators};
 ghost use Rattle.sc_chain.specs.declared.limits.TheConstants.{GENERATORS};
 
-use crate::{BallFault, ball};
+use sc_ball::{BallFault, ball};
 use sc_chain::limits::{MAX_POSITIONS, MAX_WORDS};
 use sc_chain::{Chain, Word, letters_of};
 use sc_fan::Fan;

@@ -1,5 +1,5 @@
 use Rattle.sc_chain.proofs.WordLists.{AreFew}
-use Rattle.sc_ball.proofs.tests.words_of.Given as goal
+use Rattle.sc_ball_tests.proofs.balls.words_of.Given as goal
 
 abbrev pub invariant-loop-part : goal.invariant-loop-part
 invariant-loop-part l =
