@@ -8,8 +8,6 @@ mod prices;
 mod search;
 mod splitting;
 mod tables;
-#[cfg(test)]
-mod tests;
 mod trails;
 
 pub use candidates::{cheap_polygon_down, first_cheap};

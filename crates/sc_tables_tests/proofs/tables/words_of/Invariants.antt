@@ -1,5 +1,5 @@
 use Rattle.sc_chain.proofs.WordLists.{AreFew}
-use Rattle.sc_tables.proofs.tests.words_of.Given as goal
+use Rattle.sc_tables_tests.proofs.tables.words_of.Given as goal
 
 abbrev pub invariant-loop-part : goal.invariant-loop-part
 invariant-loop-part l =

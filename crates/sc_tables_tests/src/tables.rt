@@ -1,3 +1,5 @@
+//! Tables and cheap polygons of small chains, and walks that are split.
+
 ghost use Rattle.std.specs.Prelude.{◌<◌, ◌≤◌, ◌^◌, length, IfOk};
 ghost use Rattle.std.specs.List.{All};
 ghost use Rattle.sc_theory.specs.Chains.{positions};
@@ -8,8 +10,8 @@ ghost use Rattle.sc_chain.specs.declared.limits.TheConstants.{GENERATORS};
 ghost use Rattle.sc_tables.specs.StepPrices.{AreForChain};
 ghost use Rattle.sc_tables.specs.Totals.{IsBelow};
 
-use super::*;
 use sc_chain::{Chain, Pairs, Polygon, Word, letters_of};
+use sc_tables::{Distances, Found, StepFault, StepPrices, TableFault, cheap_polygon, split};
 use sc_weight::{Pair, Plain, Weight};
 use std::alloc::{AllocError, Global};
 use std::fmt::{Debug, Write};

@@ -1,7 +1,7 @@
 use Rattle.std.proofs.Common.{List, ℕ, ◌++◌, sym, subst, ap₂, ◌∙◌}
 use Rattle.sc_theory.specs.Walks.{IsClosedWalk}
 use Rattle.sc_tables.proofs.WalkLaws.{closed_twice}
-use Rattle.sc_tables.proofs.tests.twice.Goals as goal
+use Rattle.sc_tables_tests.proofs.tables.twice.Goals as goal
 
 pub returns : goal.returns
 returns c =
