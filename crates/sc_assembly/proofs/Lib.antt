@@ -5,5 +5,4 @@ pub mod Wholes
 pub mod Sizes
 pub mod PartLoops
 pub mod CountedParts
-pub mod SmallParts
 pub mod OneMultiple

@@ -16,9 +16,6 @@ use sc_fraction::Frac;
 use sc_whole::lcm_within;
 use std::alloc::{AllocError, Global};
 
-#[cfg(test)]
-mod tests;
-
 /// Why there are no multiples.
 #[derive(Clone, Copy, Debug, PartialEq, Eq)]
 pub enum PartsFault {

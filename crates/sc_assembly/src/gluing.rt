@@ -17,9 +17,6 @@ use sc_gluing::{Laid, glue_laid};
 use sc_theory::Side;
 use std::alloc::{AllocError, Global};
 
-#[cfg(test)]
-pub(crate) mod tests;
-
 /// Lays the copies of the polygons one behind another, part by part.
 fn lay_parts(alloc: Global, parts: &[Part], counts: &[u32]) -> Result<Laid, AllocError>
     requires as_many { length counts.now ≡ length parts.now }

@@ -1,6 +1,0 @@
-use Rattle.std.proofs.Common.{refl}
-use Rattle.sc_assembly.proofs.SmallParts.{balanced_from}
-use Rattle.sc_assembly.proofs.counting.tests.too_many_sides_are_named_by_the_part.Goals as goal
-
-pub found-first-requires-clause-balanced : goal.found-first-requires-clause-balanced
-found-first-requires-clause-balanced g c = balanced_from _ 262145 _ refl

@@ -1,6 +1,0 @@
-use Rattle.std.proofs.Common.{refl}
-use Rattle.sc_assembly.proofs.SmallParts.{balanced_from}
-use Rattle.sc_assembly.proofs.gluing.tests.as_many_sides_as_there_may_be.Goals as goal
-
-pub glued-requires-clause-balanced : goal.glued-requires-clause-balanced
-glued-requires-clause-balanced g c = balanced_from _ 262144 _ refl

@@ -1,6 +1,0 @@
-use Rattle.std.proofs.Common.{refl}
-use Rattle.sc_assembly.proofs.SmallParts.{balanced_from}
-use Rattle.sc_assembly.proofs.gluing.tests.copies_are_numbered_part_by_part.Goals as goal
-
-pub glued-requires-clause-balanced : goal.glued-requires-clause-balanced
-glued-requires-clause-balanced g c = balanced_from _ 2 _ refl

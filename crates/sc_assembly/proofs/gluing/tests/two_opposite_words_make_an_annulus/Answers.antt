@@ -1,6 +1,0 @@
-use Rattle.std.proofs.Common.{refl}
-use Rattle.sc_assembly.proofs.SmallParts.{balanced_from}
-use Rattle.sc_assembly.proofs.gluing.tests.two_opposite_words_make_an_annulus.Goals as goal
-
-pub glued-requires-clause-balanced : goal.glued-requires-clause-balanced
-glued-requires-clause-balanced g c = balanced_from _ 1 _ refl

@@ -1,0 +1,6 @@
+use Rattle.std.proofs.Common.{refl}
+use Rattle.sc_assembly_tests.proofs.SmallParts.{balanced_from}
+use Rattle.sc_assembly_tests.proofs.gluing.three_words_make_a_pair_of_pants.Goals as goal
+
+pub glued-requires-clause-balanced : goal.glued-requires-clause-balanced
+glued-requires-clause-balanced g c = balanced_from _ 1 _ refl
