@@ -32,8 +32,3 @@ pub use surface::{Surface, read_surface_text};
 pub use tables::{from_line, print_from_line};
 pub use values::{print_value_line, value_line};
 pub use words::{WordLines, word_line};
-
-#[cfg(test)]
-mod line_tests;
-#[cfg(test)]
-mod tests;

@@ -1,7 +1,7 @@
 //! Texts and lines that the formats give, and what is wrong with others.
 
-use super::*;
 use sc_chain::{Kind, TextFault};
+use sc_text::read_surface_text;
 use std::test::Fail;
 
 const TEXT_A: &[u8] =

@@ -1,8 +1,11 @@
 //! Lines of values, price lists and distance tables: what they tell, what is wrong with others, and their bytes.
 
-use super::*;
 use sc_chain::Kind;
 use sc_fraction::Frac;
+use sc_text::{
+    LineFault, base_line, from_line, pair_line, print_base_line, print_from_line, print_pair_line,
+    print_scale_line, print_value_line, scale_line, value_line,
+};
 use std::test::Fail;
 
 const SCALES: [(&[u8], Result<i128, Kind>); 8] = [
