@@ -14,8 +14,3 @@ mod spot;
 pub use drawing::draw;
 pub use fan::draw_fan;
 pub use spot::Spot;
-
-#[cfg(test)]
-mod fan_tests;
-#[cfg(test)]
-mod tests;

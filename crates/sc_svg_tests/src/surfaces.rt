@@ -1,7 +1,7 @@
 //! Drawings of small surfaces, worked out by hand.
 
-use super::*;
 use sc_fatgraph::{Fatgraph, Side, Sides, SurfaceText, read_surface};
+use sc_svg::draw;
 use std::alloc::{AllocError, Global};
 use std::process::Abort;
 

@@ -1,7 +1,7 @@
 //! Drawings of fans, worked out by hand.
 
-use super::*;
-use crate::limits::{MAX_DIRECTION, MAX_VALUE};
+use sc_svg::limits::{MAX_DIRECTION, MAX_VALUE};
+use sc_svg::{Spot, draw_fan};
 use std::alloc::AllocError;
 
 /// A corner, where its numbers are in their ranges.
