@@ -9,9 +9,10 @@ use std::alloc::{AllocError, Global};
 /// What a unit costs, in numbers of vertices: so much that it leaves the basis.
 const UNIT_COST: i64 = 64;
 
-/// The small number in place of the 0 in the row of the first pair, with `VALUE_BITS` bits behind the point. That of row k
-/// is about (`DECAY` / (k + `DECAY`))^`DECAY` times as great. So no two values tie, and the first rows decide most, as in the
-/// lexicographic rule by which rows leave in earnest: a basis that is feasible here is mostly feasible there.
+/// The small number in place of the 0 in the row of the first pair, with `VALUE_BITS` bits behind the point. That of
+/// row k is about (`DECAY` / (k + `DECAY`))^`DECAY` times as great. So no two values tie, and the first rows decide
+/// most, as in the lexicographic rule by which rows leave in earnest: a basis that is feasible here is mostly feasible
+/// there.
 const FIRST_SMALL: i64 = (1 << VALUE_BITS) / 1000;
 
 /// How fast the small numbers decrease.
@@ -44,8 +45,8 @@ pub(crate) struct Basis {
     pub(crate) held: Vec<Held>,
 }
 
-/// A row that can leave: the value of its item, and its entry of the image. The value is at least 0 and the entry above 0,
-/// or both are negative where a basis is made feasible.
+/// A row that can leave: the value of its item, and its entry of the image. The value is at least 0 and the entry above
+/// 0, or both are negative where a basis is made feasible.
 #[derive(Clone, Copy)]
 pub(crate) struct Leaving {
     pub(crate) row: usize,
@@ -160,8 +161,8 @@ impl Basis {
         self.change_image();
     }
 
-    /// The row that leaves where the column that was looked at enters: among those whose entry is above the least pivot, the
-    /// one whose value over its entry is least, and the first of these.
+    /// The row that leaves where the column that was looked at enters: among those whose entry is above the least
+    /// pivot, the one whose value over its entry is least, and the first of these.
     pub(crate) fn leaving(&self, least_pivot: i64) -> Option<Leaving> {
         let mut best: Option<Leaving> = None;
         for (row, (pivot, value)) in self.image.iter().zip(self.values.iter()).enumerate() {

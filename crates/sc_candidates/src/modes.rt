@@ -90,8 +90,8 @@ fn has_short_equal_words(chain: &Chain) -> bool {
     has_equal_words(chain) && chain.positions() <= chain.words().saturating_mul(SHORT_WORD)
 }
 
-/// The modes that suit a chain, in the order in which they are tried. In a chain with symmetries near polygons lead to a basis
-/// with small numbers, and where the words are short, those of a good surface.
+/// The modes that suit a chain, in the order in which they are tried. In a chain with symmetries near polygons lead to
+/// a basis with small numbers, and where the words are short, those of a good surface.
 fn modes(alloc: Global, chain: &Chain, is_symmetric: bool) -> Result<Vec<Mode>, AllocError> {
     let near = |thousandths| Mode::Near { thousandths };
     if has_short_equal_words(chain) {
@@ -105,8 +105,8 @@ fn modes(alloc: Global, chain: &Chain, is_symmetric: bool) -> Result<Vec<Mode>, 
     }
 }
 
-/// How many pivots the try of a mode makes at most. Without symmetries near polygons are tried after all others, and are worth
-/// no long journal; nor are those of a good surface, which are tried again at the end.
+/// How many pivots the try of a mode makes at most. Without symmetries near polygons are tried after all others, and
+/// are worth no long journal; nor are those of a good surface, which are tried again at the end.
 fn pivots(mode: Mode, rows: usize, is_symmetric: bool) -> u32 {
     let rows = u64::try_from(rows).unwrap_or(u64::MAX);
     let most = PIVOTS_OF_ONE_ROW
