@@ -1,15 +1,13 @@
 -- The pieces of the lines of a search.
-use Rattle.std.proofs.Common.{◌≡◌, ℕ, zero, suc, min, ◌+◌, ◌<◌, ◌≤◌, ◌&&◌, List, [], ◌∷◌, ◌++◌, map, length, get_or, take, codes, pos, ℤ, refl, sym, ap, ap₂, ◌∙◌, append_assoc, arith, nat_lt, unsigned_abs}
-use Rattle.std.specs.List.{flat_map, zip, filter, range_with_len}
-use Rattle.std.proofs.lemmas.Slice.Zip.{get_or-zip, length-zip}
+use Rattle.std.proofs.Common.{◌≡◌, ℕ, ◌+◌, ◌&&◌, List, [], ◌∷◌, ◌++◌, map, length, codes, refl, sym, ap, ap₂, ◌∙◌, append_assoc, nat_lt, unsigned_abs}
+use Rattle.std.specs.List.{flat_map, filter, range_with_len}
 use Rattle.std.proofs.lemmas.List.{length-map, append-nil}
 use Rattle.sc_theory.specs.Words.{is_inverse}
 use Rattle.sc_theory.specs.Chains.{Chain, positions, letter}
-use Rattle.sc_theory.specs.Prices.{Prices, pairs}
-use Rattle.sc_text.specs.PriceLines.{scale_line, base_line, pair_line}
+use Rattle.sc_theory.specs.Prices.{pairs}
 use Rattle.sc_line.specs.Lines.{Line, ended, text_of, count_line}
-use Rattle.sc_line.proofs.PrintLaws.{text_both, flat_map-map, pieces_more}
-use Rattle.sc_certificate.specs.Spelled.{list_lines}
+use Rattle.sc_line.proofs.PrintLaws.{text_both, flat_map-map}
+use Rattle.sc_certificate.proofs.PrintedLines.{list_pieces}
 use Rattle.sc_cone.specs.declared.Direction.{Direction}
 use Rattle.sc_cone.specs.declared.Quadrant.{Quadrant}
 use Rattle.sc_cone.specs.Cones.{second_words, chain_of, quadrant_chain}
@@ -18,7 +16,7 @@ use Rattle.sc_cone.proofs.SameWords.{Same}
 use Rattle.sc_cone.proofs.ConeChains.{same_quadrant}
 use Rattle.sc_crossing.specs.declared.reached.Reached.{Reached as ReachedParts}
 use Rattle.sc_crossing.specs.Neighbours.{reached_of}
-use Rattle.sc_ball_refusal.specs.Texts.{Shown, named_direction, reached_lines, search_lines, list_text, reached_text}
+use Rattle.sc_ball_refusal.specs.Texts.{Shown, named_direction, reached_lines, search_lines, reached_text}
 
 -- ---- the pairs of a quadrant's chain are those of each direction's
 
@@ -31,46 +29,7 @@ pairs_of_direction q first second d =
     let size : positions c ≡ positions e = same.all in
     λ k. flat_map (λ (a : ℕ). map (λ (b : ℕ). (a, b)) (filter (λ (b : ℕ). nat_lt a b && is_inverse (p k a) (p k b)) (range_with_len 0 (size k)))) (range_with_len 0 (size k))
 
--- ---- pairs beside their prices
-
-nothing : List ℤ
-nothing = []
-
-take_nothing : (n : ℕ) → take n nothing ≡ nothing
-unfolding nothing
-take_nothing zero = refl
-take_nothing (suc n) = refl
-
--- prices past the last pair have no line
-pub zip_known : {X : Type 0} (ps : List X) (xs : List ℤ) → zip ps (take (min (length xs) (length ps)) xs) ≡ zip ps xs
-unfolding nothing
-zip_known [] xs = refl
-zip_known (p ∷ ps) [] = ap (λ (ys : List ℤ). zip (p ∷ ps) ys) (take_nothing (min 0 (length (p ∷ ps))))
-zip_known (p ∷ ps) (x ∷ xs) =
-    let one_more : min (suc (length xs)) (suc (length ps)) ≡ suc (min (length xs) (length ps)) = omega arith in
-    ap (λ (n : ℕ). zip (p ∷ ps) (take n (x ∷ xs))) one_more ∙ ap (λ rest. (p, x) ∷ rest) (zip_known ps xs)
-
-module _ (ps : List (ℕ × ℕ)) (prices : List ℤ) (i : ℕ) (few : length prices ≤ length ps) where
-  pub zip_past : length prices ≤ i → length (zip ps prices) ≤ i
-  zip_past h = omega (arith, length-zip ps prices, few, h)
-
-  pub pair_lines_more : (p : ℕ × ℕ) (old mid new : List ℕ) → i < length prices → p ≡ get_or ps i (0, 0) →
-      mid ≡ old ++ text_of (map (λ e. pair_line e.0 e.1) (take i (zip ps prices))) → new ≡ mid ++ ended (pair_line p (get_or prices i (pos 0))) →
-      new ≡ old ++ text_of (map (λ e. pair_line e.0 e.1) (take (i + 1) (zip ps prices)))
-  pair_lines_more p old mid new h e before here =
-      let line : (ℕ × ℕ) × ℤ → List ℕ = λ x. ended (pair_line x.0 x.1) in
-      let at : ended (pair_line p (get_or prices i (pos 0))) ≡ line (get_or (zip ps prices) i ((0, 0), pos 0)) =
-      ap (λ (q : ℕ × ℕ). ended (pair_line q (get_or prices i (pos 0)))) e
-      ∙ ap line (sym (get_or-zip ps prices i ((0, 0), pos 0) (omega (arith, few, h)) h)) in
-      here
-      ∙ ap₂ (λ (s t : List ℕ). s ++ t) (before ∙ ap (λ (t : List ℕ). old ++ t) (flat_map-map ended (λ (x : (ℕ × ℕ) × ℤ). pair_line x.0 x.1) (take i (zip ps prices)))) at
-      ∙ pieces_more line old (zip ps prices) i ((0, 0), pos 0) (omega (arith, length-zip ps prices, few, h))
-      ∙ ap (λ (t : List ℕ). old ++ t) (sym (flat_map-map ended (λ (x : (ℕ × ℕ) × ℤ). pair_line x.0 x.1) (take (i + 1) (zip ps prices))))
-
 -- ---- a search
-
-list_pieces : (c : Chain) (list : Prices) → text_of (list_lines c list) ≡ list_text (pairs c) list
-list_pieces c list = ap (λ (t : List ℕ). ended (scale_line list.scale) ++ t) (text_both (map base_line list.base) (map (λ e. pair_line e.0 e.1) (zip (pairs c) list.pair)))
 
 reached_pieces : (c : Chain) (rs : List Reached) → text_of (flat_map (reached_lines c) rs) ≡ flat_map (reached_text (pairs c)) rs
 reached_pieces c [] = refl
@@ -86,18 +45,6 @@ search_pieces v xs e =
     (reached_pieces c v.entries ∙ ap (flat_map (reached_text (pairs c))) e ∙ flat_map-map (reached_text (pairs c)) reached_of xs)
 
 -- ---- what was appended piece by piece
-
-pub list_printed : (ps : List (ℕ × ℕ)) (list : Prices) (old s1 s2 new : List ℕ) (scale : ℤ) (base prices : List ℤ) →
-    s1 ≡ old ++ ended (scale_line scale) → s2 ≡ s1 ++ text_of (map base_line base) → new ≡ s2 ++ text_of (map (λ e. pair_line e.0 e.1) (zip ps prices)) →
-    scale ≡ list.scale → base ≡ list.base → zip ps prices ≡ zip ps list.pair → new ≡ old ++ list_text ps list
-list_printed ps list old s1 s2 new scale base prices e1 e2 e3 is_scale is_base is_pairs =
-    let first : List ℕ = ended (scale_line list.scale) in
-    let middle : List ℕ = text_of (map base_line list.base) in
-    let last : List ℕ = text_of (map (λ e. pair_line e.0 e.1) (zip ps list.pair)) in
-    let one : s1 ≡ old ++ first = e1 ∙ ap (λ (z : ℤ). old ++ ended (scale_line z)) is_scale in
-    let two : s2 ≡ (old ++ first) ++ middle = e2 ∙ ap₂ (λ (s : List ℕ) (zs : List ℤ). s ++ text_of (map base_line zs)) one is_base in
-    e3 ∙ ap₂ (λ (s : List ℕ) (es : List ((ℕ × ℕ) × ℤ)). s ++ text_of (map (λ e. pair_line e.0 e.1) es)) two is_pairs
-    ∙ append_assoc (old ++ first) middle last ∙ append_assoc old first (middle ++ last)
 
 pub search_printed : (heading : Line) (v : Shown) (xs : List ReachedParts) (ps : List (ℕ × ℕ)) (old s1 s2 new : List ℕ) → v.entries ≡ map reached_of xs →
     ps ≡ pairs (quadrant_chain v.quadrant v.first v.second) → s1 ≡ old ++ ended heading → s2 ≡ s1 ++ ended (count_line (codes "search") (length xs)) →

@@ -1,15 +1,13 @@
 -- The texts of what stops the search for the corners of a quadrant.
 use Rattle.std.specs.Prelude.{ℕ, ℤ, List, [], ◌∷◌, ◌++◌, map, length, codes}
-use Rattle.std.specs.List.{flat_map, zip}
+use Rattle.std.specs.List.{flat_map}
 use Rattle.sc_theory.specs.Chains.{Chain}
-use Rattle.sc_theory.specs.Prices.{Prices}
 use Rattle.sc_chain.specs.declared.polygon.Pivot.{Pivot}
 use Rattle.sc_fraction.specs.declared.frac.Frac.{Frac}
 use Rattle.sc_fraction.specs.Frac.{frac_text}
 use Rattle.sc_line.specs.Lines.{Line, Field, spaced, ended, text_of, numbers_line, count_line}
-use Rattle.sc_text.specs.PriceLines.{scale_line, base_line, pair_line}
 use Rattle.sc_text.specs.Surfaces.{ending}
-use Rattle.sc_certificate.specs.Spelled.{list_lines}
+use Rattle.sc_certificate.specs.Spelled.{list_lines, list_text}
 use Rattle.sc_rows.specs.declared.fault.WideAt.{WideAt}
 use Rattle.sc_cone.specs.declared.Direction.{Direction}
 use Rattle.sc_cone.specs.declared.Quadrant.{Quadrant}
@@ -45,11 +43,7 @@ reached_lines c r = named_direction (codes "at") r.direction ∷ list_lines c r.
 abbrev pub search_lines : Shown → List Line
 search_lines v = count_line (codes "search") (length v.entries) ∷ flat_map (reached_lines (quadrant_chain v.quadrant v.first v.second)) v.entries
 
--- the bytes of a list, and of a direction with its list, by the pairs of the quadrant's chain
-abbrev pub list_text : List (ℕ × ℕ) → Prices → List ℕ
-list_text ps list =
-    ended (scale_line list.scale) ++ (text_of (map base_line list.base) ++ text_of (map (λ e. pair_line e.0 e.1) (zip ps list.pair)))
-
+-- the bytes of a direction with its list, by the pairs of the quadrant's chain
 abbrev pub reached_text : List (ℕ × ℕ) → Reached → List ℕ
 reached_text ps r = ended (named_direction (codes "at") r.direction) ++ list_text ps r.list
 

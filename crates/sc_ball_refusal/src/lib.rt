@@ -3,7 +3,6 @@
 #![tactic(auto)]
 
 mod crosses;
-mod lists;
 mod places;
 mod search;
 mod unsolved;

@@ -11,7 +11,7 @@ ghost use Rattle.sc_cone.specs.Cones.{quadrant_chain};
 ghost use Rattle.sc_crossing.specs.Neighbours.{reached_of};
 ghost use Rattle.sc_ball_refusal.specs.Texts as texts;
 
-use crate::lists::print_list;
+use sc_certificate::print_list;
 use sc_chain::{Chain, Pairs};
 use sc_cone::{Direction, Quadrant};
 use sc_crossing::{Reached, chain_at};

@@ -4,3 +4,4 @@ pub mod CertificateLaws
 pub mod TextLaws
 pub mod LineLaws
 pub mod SpelledLaws
+pub mod PrintedLines

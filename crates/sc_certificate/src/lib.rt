@@ -8,6 +8,7 @@ mod items;
 mod laws;
 mod pivots;
 mod price_list;
+mod printing;
 mod reader;
 mod tables;
 
@@ -17,6 +18,7 @@ pub use laws::{
     faultless_is_certificate_text, pivot_lines_are_a_kind, printed_certificates_are_read,
 };
 pub use price_list::PriceList;
+pub use printing::{print_base_lines, print_list, print_pair_lines};
 pub use reader::read_certificate_text;
 pub use tables::{Row, Tables};
 

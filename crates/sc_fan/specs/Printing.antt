@@ -1,12 +1,12 @@
 -- The text of a fan in pieces.
 use Rattle.std.specs.Prelude.{◌≡◌, ℕ, ◌≤◌, List, ◌++◌, map, length, All, codes}
-use Rattle.std.specs.List.{flat_map, enumerate_from, zip}
+use Rattle.std.specs.List.{flat_map, enumerate_from}
 use Rattle.sc_theory.specs.Prices.{Prices}
 use Rattle.sc_cone.specs.declared.Quadrant.{Quadrant}
 use Rattle.sc_cone.specs.declared.Quadrant.TheVariants.{Lower, Upper}
 use Rattle.sc_line.specs.Lines.{ended, text_of, count_line}
-use Rattle.sc_text.specs.PriceLines.{scale_line, base_line, pair_line}
 use Rattle.sc_text.specs.Surfaces.{ending}
+use Rattle.sc_certificate.specs.Spelled.{list_text}
 use Rattle.sc_fan.specs.declared.corner.Corner.{Corner}
 use Rattle.sc_fan.specs.declared.fan.Edge.{Edge}
 use Rattle.sc_fan.specs.declared.printing.Part.{Part}
@@ -17,11 +17,7 @@ use Rattle.sc_fan.specs.Fans.{FanSaid, quadrant_at, heading, chain_lines, corner
 abbrev pub Pairs : Type 0
 Pairs = List (ℕ × ℕ)
 
--- a list for the chain of these pairs, and an edge with its list
-abbrev pub list_text : Pairs → Prices → List ℕ
-list_text ps list =
-    ended (scale_line list.scale) ++ (text_of (map base_line list.base) ++ text_of (map (λ e. pair_line e.0 e.1) (zip ps list.pair)))
-
+-- an edge with its list for the chain of these pairs
 abbrev pub edge_text : Pairs → ℕ → Prices → List ℕ
 edge_text ps i list = ended (edge_line i) ++ list_text ps list
 

@@ -1,27 +1,22 @@
 //! Prints fans.
 
 ghost use Rattle.std.specs.Prelude.{◌≡◌, ◌<◌, ◌++◌, map, length, All, OnOk, OnErr};
-ghost use Rattle.std.specs.List.{zip};
 ghost use Rattle.sc_chain.specs.declared.limits.TheConstants.{GENERATORS};
 ghost use Rattle.sc_line.specs.Lines.{text_of};
 ghost use Rattle.sc_line.specs.Printing.{AppendsPart};
 ghost use Rattle.sc_text.specs.Words as words;
-ghost use Rattle.sc_text.specs.PriceLines as lines;
 ghost use Rattle.sc_fan.specs.Corners.{corner_said, corner_line};
 ghost use Rattle.sc_fan.specs.Fans.{chain_lines, corners_lines, edges_lines, fan_text, IsFanInRange};
-ghost use Rattle.sc_fan.specs.Printing.{list_text, edge_text, edges_text, counted_edges_text, AreEdgesOf};
+ghost use Rattle.sc_fan.specs.Printing.{edge_text, edges_text, counted_edges_text, AreEdgesOf};
 
 use crate::corner::Corner;
 use crate::corners::print_corner_line;
 use crate::fan::{Edge, Fan};
 use crate::quadrants::{pairs_behind, quadrant_pairs};
-use sc_certificate::PriceList;
+use sc_certificate::{PriceList, print_list};
 use sc_chain::{Pairs, Word};
 use sc_cone::Quadrant;
-use sc_text::{
-    print_base_line, print_count_line, print_line, print_pair_line, print_scale_line,
-    print_word_line,
-};
+use sc_text::{print_count_line, print_line, print_word_line};
 use std::alloc::AllocError;
 use std::marker::Model;
 
@@ -84,39 +79,6 @@ fn print_corners(corners: &[Corner], out: &mut Vec<u8>) -> Result<(), AllocError
 {
     print_count_line(b"corners", corners.len() as u64, out)?;
     print_corner_lines(corners, out)
-}
-
-fn print_base_lines(prices: &[i128], out: &mut Vec<u8>) -> Result<(), AllocError>
-    ensures ok { OnOk result (out.new.items ≡ out.old.items ++ text_of (map lines.base_line prices.now)) }
-    ensures err { OnErr result (AppendsPart out.old.items out.new.items (text_of (map lines.base_line prices.now))) }
-{
-    for price in prices {
-        print_base_line(*price, out)?;
-    }
-    Ok(())
-}
-
-fn print_pair_lines(pairs: &Pairs, prices: &[i128], out: &mut Vec<u8>) -> Result<(), AllocError>
-    requires { length prices.now ≡ length pairs.now }
-    ensures ok { OnOk result (out.new.items ≡ out.old.items ++ text_of (map (λ e. lines.pair_line e.0 e.1) (zip pairs.now prices.now))) }
-    ensures err { OnErr result (AppendsPart out.old.items out.new.items (text_of (map (λ e. lines.pair_line e.0 e.1) (zip pairs.now prices.now)))) }
-{
-    for (row, price) in prices.iter().enumerate() {
-        let (p, q) = pairs.pair_at(row);
-        print_pair_line(p as u32, q as u32, *price, out)?;
-    }
-    Ok(())
-}
-
-// A price list for the chain of these pairs.
-fn print_list(pairs: &Pairs, list: &PriceList, out: &mut Vec<u8>) -> Result<(), AllocError>
-    requires { length list.now.pair ≡ length pairs.now }
-    ensures ok { OnOk result (out.new.items ≡ out.old.items ++ list_text pairs.now list.now) }
-    ensures err { OnErr result (AppendsPart out.old.items out.new.items (list_text pairs.now list.now)) }
-{
-    print_scale_line(list.scale(), out)?;
-    print_base_lines(list.base(), out)?;
-    print_pair_lines(pairs, list.pair(), out)
 }
 
 // An edge: its number and its list.

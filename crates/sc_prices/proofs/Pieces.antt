@@ -1,8 +1,7 @@
 -- The pieces of a certificate text, and of its lines.
-use Rattle.std.proofs.Common.{◌≡◌, ℕ, ◌+◌, ◌<◌, ◌≤◌, take, drop, Option, zero-add, subst, List, [], ◌∷◌, ◌++◌, map, length, get_or, codes, pos, ℤ, sym, ap, ◌∙◌, append_assoc, arith}
-use Rattle.std.specs.List.{flat_map, zip, enumerate_from}
+use Rattle.std.proofs.Common.{◌≡◌, ℕ, ◌+◌, ◌<◌, ◌≤◌, take, drop, Option, zero-add, subst, List, [], ◌∷◌, ◌++◌, map, length, get_or, codes, pos, ℤ, sym, ap, ◌∙◌, append_assoc}
+use Rattle.std.specs.List.{flat_map, enumerate_from}
 use Rattle.std.proofs.lemmas.List.{take_all}
-use Rattle.std.proofs.lemmas.Slice.Zip.{get_or-zip, length-zip}
 use Rattle.std.proofs.lemmas.List.FromFn.{get_or-enumerate_from}
 use Rattle.std.proofs.lemmas.List.Concat.{flat_map-append}
 use Rattle.sc_theory.specs.Prices.{Tables, pairs}
@@ -11,17 +10,17 @@ use Rattle.sc_whole.specs.Spelling.{spelling}
 use Rattle.sc_line.specs.Lines.{Line, ended, text_of, count_line}
 use Rattle.sc_text.specs.Surfaces.{ending}
 use Rattle.sc_text.specs.Printing.{words_lines, sides_lines}
-use Rattle.sc_text.specs.PriceLines.{scale_line, base_line, pair_line}
+use Rattle.sc_text.specs.PriceLines.{scale_line, base_line}
 use Rattle.sc_text.specs.ValueLines.{value_line}
-use Rattle.sc_line.proofs.PrintLaws.{line_flat, flat_map-map, pieces_at, pieces_more, part_after, lines_at}
+use Rattle.sc_line.proofs.PrintLaws.{line_flat, pieces_at, pieces_more, part_after}
 use Rattle.sc_line.specs.Printing.{AppendsPart}
 use Rattle.sc_certificate.specs.PivotLines.{pivot_line}
 use Rattle.sc_certificate.specs.Certificates.{Certificate, heading, certificate_text}
-use Rattle.sc_certificate.specs.Spelled.{list_lines, tables_lines, journal_lines}
+use Rattle.sc_certificate.specs.Spelled.{list_lines, pair_lines, tables_lines, journal_lines}
 use Rattle.sc_certificate.proofs.SpelledLaws.{same_lines}
 use Rattle.sc_prices.specs.declared.printing.Part.{Part}
 use Rattle.sc_prices.specs.declared.printing.TheConstants.{PARTS}
-use Rattle.sc_prices.specs.Parts.{part_text, pair_lines}
+use Rattle.sc_prices.specs.Parts.{part_text}
 
 -- the pieces of the line of a pivot
 pub pivot_pieces : (row : ℕ) (walk : List ℕ) → ended (pivot_line (record { row = row; polygon = walk })) ≡ codes "pivot " ++ (spelling (pos row) ++ (flat_map (λ i. 32 ∷ spelling (pos i)) walk ++ 10 ∷ []))
@@ -58,40 +57,7 @@ parts_are_text v count =
     (lines_first words (value_line v.value ∷ count_line (codes "copies") v.copies ∷ (sides ++ from_list))
     ∙ ap (λ (t : List ℕ). text_of words ++ (ended (value_line v.value) ++ (ended (count_line (codes "copies") v.copies) ++ t))) behind_value)
 
--- ---- lines one after another
-
-module _ {X : Type 0} (f : X → Line) (xs : List X) (i : ℕ) (d : X) (line : Line) (inside : i < length xs) (is : line ≡ f (get_or xs i d)) where
-  pub lines_more : (old mid new : List ℕ) → mid ≡ old ++ text_of (map f (take i xs)) → new ≡ mid ++ ended line → new ≡ old ++ text_of (map f (take (i + 1) xs))
-  lines_more old mid new before here =
-      here
-      ∙ ap (λ (t : List ℕ). t ++ ended line) before
-      ∙ ap (λ (t : List ℕ). (old ++ text_of (map f (take i xs))) ++ ended t) is
-      ∙ ap (λ (t : List ℕ). (old ++ t) ++ ended (f (get_or xs i d))) (flat_map-map ended f (take i xs))
-      ∙ pieces_more (λ x. ended (f x)) old xs i d inside
-      ∙ ap (λ (t : List ℕ). old ++ t) (sym (flat_map-map ended f (take (i + 1) xs)))
-
-  pub lines_part : (old mid new : List ℕ) → mid ≡ old ++ text_of (map f (take i xs)) → AppendsPart mid new (ended line) → AppendsPart old new (text_of (map f xs))
-  lines_part old mid new before part =
-      part_after old mid new (text_of (map f (take i xs))) (ended (f (get_or xs i d))) (text_of (map f (drop (i + 1) xs))) (text_of (map f xs)) before
-      (subst (λ (t : Line). AppendsPart mid new (ended t)) is part) (lines_at f xs i d inside)
-
-pub lines_done : {X : Type 0} (f : X → Line) (xs : List X) (i : ℕ) (old mid : List ℕ) → length xs ≤ i → mid ≡ old ++ text_of (map f (take i xs)) → mid ≡ old ++ text_of (map f xs)
-lines_done f xs i old mid past before = before ∙ ap (λ ys. old ++ text_of (map f ys)) (take_all i xs past)
-
--- ---- pairs beside their prices, and rows beside their starts
-
-module _ (ps : List (ℕ × ℕ)) (prices : List ℤ) (i : ℕ) where
-  pub zip_inside : length prices ≡ length ps → i < length prices → i < length (zip ps prices)
-  zip_inside same h = omega (arith, length-zip ps prices)
-
-  pub zip_past : length prices ≡ length ps → length prices ≤ i → length (zip ps prices) ≤ i
-  zip_past same h = omega (arith, length-zip ps prices)
-
-  pub zip_line : (p : ℕ × ℕ) → length prices ≡ length ps → i < length prices → p ≡ get_or ps i (0, 0)
-      → pair_line p (get_or prices i (pos 0)) ≡ pair_line (get_or (zip ps prices) i ((0, 0), pos 0)).0 (get_or (zip ps prices) i ((0, 0), pos 0)).1
-  zip_line p same h e =
-      ap (λ (q : ℕ × ℕ). pair_line q (get_or prices i (pos 0))) e
-      ∙ ap (λ (x : (ℕ × ℕ) × ℤ). pair_line x.0 x.1) (sym (get_or-zip ps prices i ((0, 0), pos 0) (omega arith) h))
+-- ---- rows beside their starts
 
 pub row_line : (tables : Tables) (i : ℕ) (row : List (Option ℤ)) → i < length tables → row ≡ get_or tables i []
     → from_line i row ≡ from_line (get_or (enumerate_from 0 tables) i (0, [])).0 (get_or (enumerate_from 0 tables) i (0, [])).1

@@ -1,21 +1,16 @@
 -- The text of a certificate in parts.
-use Rattle.std.specs.Prelude.{ℕ, ℤ, List, map, length, codes}
-use Rattle.std.specs.List.{zip}
+use Rattle.std.specs.Prelude.{ℕ, List, map, length, codes}
 use Rattle.sc_theory.specs.Prices.{pairs}
-use Rattle.sc_line.specs.Lines.{Line, ended, text_of, count_line}
+use Rattle.sc_line.specs.Lines.{ended, text_of, count_line}
 use Rattle.sc_text.specs.Surfaces.{ending}
 use Rattle.sc_text.specs.Printing.{words_lines, sides_lines}
-use Rattle.sc_text.specs.PriceLines.{scale_line, base_line, pair_line}
+use Rattle.sc_text.specs.PriceLines.{scale_line, base_line}
 use Rattle.sc_text.specs.ValueLines.{value_line}
 use Rattle.sc_certificate.specs.PivotLines.{pivot_line}
 use Rattle.sc_certificate.specs.Certificates.{Certificate, heading}
-use Rattle.sc_certificate.specs.Spelled.{tables_lines}
+use Rattle.sc_certificate.specs.Spelled.{pair_lines, tables_lines}
 use Rattle.sc_prices.specs.declared.printing.Part.{Part}
 use Rattle.sc_prices.specs.declared.printing.Part.TheVariants.{Heading, Words, Value, Copies, Sides, Scale, Bases, Pairs, Tables, Pivots, Journal, End}
-
--- the lines of the prices of pairs
-abbrev pub pair_lines : List (ℕ × ℕ) → List ℤ → List Line
-pair_lines ps prices = map (λ e. pair_line e.0 e.1) (zip ps prices)
 
 -- the bytes of a part
 abbrev pub part_text : Certificate → Part → List ℕ

@@ -6,18 +6,16 @@ ghost use Rattle.sc_whole.specs.Spelling.{spelling};
 ghost use Rattle.sc_chain.specs.declared.limits.TheConstants.{MAX_POSITIONS};
 ghost use Rattle.sc_line.specs.Lines.{ended, text_of};
 ghost use Rattle.sc_line.specs.Printing.{AppendsPart};
-ghost use Rattle.sc_text.specs.PriceLines as lines;
 ghost use Rattle.sc_certificate.specs.PivotLines.{pivot_line};
-ghost use Rattle.sc_prices.specs.Parts.{pair_lines};
 ghost use Rattle.sc_certificate.specs.Spelled.{tables_lines};
 ghost use Rattle.sc_certificate.specs.Certificates.{certificate_text, IsCertificateInRange};
 
 use crate::certificate::Certificate;
-use sc_certificate::Tables;
+use sc_certificate::{Tables, print_base_lines, print_pair_lines};
 use sc_chain::{Pairs, Pivot};
 use sc_text::{
-    print_base_line, print_count_line, print_from_line, print_line, print_pair_line,
-    print_scale_line, print_sides, print_value_line, print_words,
+    print_count_line, print_from_line, print_line, print_scale_line, print_sides, print_value_line,
+    print_words,
 };
 use sc_whole::print_decimal;
 use std::alloc::AllocError;
@@ -54,28 +52,6 @@ const PARTS: [Part; 12] = [
     Part::Journal,
     Part::End,
 ];
-
-fn print_base_lines(prices: &[i128], out: &mut Vec<u8>) -> Result<(), AllocError>
-    ensures ok { OnOk result (out.new.items ≡ out.old.items ++ text_of (map lines.base_line prices.now)) }
-    ensures err { OnErr result (AppendsPart out.old.items out.new.items (text_of (map lines.base_line prices.now))) }
-{
-    for price in prices {
-        print_base_line(*price, out)?;
-    }
-    Ok(())
-}
-
-fn print_pair_lines(pairs: &Pairs, prices: &[i128], out: &mut Vec<u8>) -> Result<(), AllocError>
-    requires { length prices.now ≡ length pairs.now }
-    ensures ok { OnOk result (out.new.items ≡ out.old.items ++ text_of (pair_lines pairs.now prices.now)) }
-    ensures err { OnErr result (AppendsPart out.old.items out.new.items (text_of (pair_lines pairs.now prices.now))) }
-{
-    for (row, price) in prices.iter().enumerate() {
-        let (p, q) = pairs.pair_at(row);
-        print_pair_line(p as u32, q as u32, *price, out)?;
-    }
-    Ok(())
-}
 
 fn print_rows(tables: &Tables, out: &mut Vec<u8>) -> Result<(), AllocError>
     requires { length tables.now ≤ MAX_POSITIONS }

@@ -2,7 +2,7 @@ use Rattle.std.proofs.Common.{ap}
 use Rattle.sc_fan.specs.declared.corner.Corner.{Corner}
 use Rattle.sc_fan.specs.Corners.{corner_said, corner_line}
 use Rattle.sc_line.proofs.PrintLaws.{on_err}
-use Rattle.sc_fan.proofs.Pieces.{lines_more, lines_part}
+use Rattle.sc_certificate.proofs.PrintedLines.{lines_more, lines_part}
 use Rattle.sc_fan.proofs.printing.print_corner_lines.Goals as goal
 
 pub returns-in_err-print_corner_line-clause-err : goal.returns-in_err-print_corner_line-clause-err

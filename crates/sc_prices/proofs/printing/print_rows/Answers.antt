@@ -3,7 +3,8 @@ use Rattle.std.specs.List.{enumerate_from}
 use Rattle.std.proofs.lemmas.List.FromFn.{length-enumerate_from}
 use Rattle.sc_text.specs.TableLines.{from_line}
 use Rattle.sc_line.proofs.PrintLaws.{on_err}
-use Rattle.sc_prices.proofs.Pieces.{lines_more, lines_part, lines_done, row_line}
+use Rattle.sc_certificate.proofs.PrintedLines.{lines_more, lines_part, lines_done}
+use Rattle.sc_prices.proofs.Pieces.{row_line}
 use Rattle.sc_prices.proofs.printing.print_rows.Goals as goal
 
 pub returns-in_err-print_from_line-clause-err : goal.returns-in_err-print_from_line-clause-err

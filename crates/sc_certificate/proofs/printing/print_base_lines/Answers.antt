@@ -3,7 +3,7 @@ use Rattle.std.specs.Int.{w128}
 use Rattle.sc_line.specs.Lines.{text_of}
 use Rattle.sc_text.specs.PriceLines.{base_line}
 use Rattle.sc_line.proofs.PrintLaws.{part_after, lines_at, on_err}
-use Rattle.sc_fan.proofs.printing.print_base_lines.Goals as goal
+use Rattle.sc_certificate.proofs.printing.print_base_lines.Goals as goal
 
 pub returns-in_err-print_base_line-clause-err : goal.returns-in_err-print_base_line-clause-err
 returns-in_err-print_base_line-clause-err c =

@@ -3,8 +3,8 @@ use Rattle.std.specs.Int.{w128}
 use Rattle.std.specs.List.{zip}
 use Rattle.sc_text.specs.PriceLines.{pair_line}
 use Rattle.sc_line.proofs.PrintLaws.{on_err}
-use Rattle.sc_prices.proofs.Pieces.{lines_more, lines_part, lines_done, zip_line, zip_inside, zip_past}
-use Rattle.sc_prices.proofs.printing.print_pair_lines.Goals as goal
+use Rattle.sc_certificate.proofs.PrintedLines.{lines_more, lines_part, lines_done, zip_line, zip_inside, zip_past}
+use Rattle.sc_certificate.proofs.printing.print_pair_lines.Goals as goal
 
 pub returns-in_err-print_pair_line-clause-err : goal.returns-in_err-print_pair_line-clause-err
 returns-in_err-print_pair_line-clause-err c =
@@ -15,7 +15,7 @@ returns-in_err-print_pair_line-clause-err c =
     let part = simp (to_z-of_z fits) at c.in_err-print_pair_line.ensures.err in
     on_err _
     (lines_part (λ e. pair_line e.0 e.1) (zip ps prices) i ((0, 0), pos 0) (pair_line c.pair_at-p.result (get_or prices i (pos 0)))
-    (zip_inside ps prices i c.requires c.loop-row-test.true) (zip_line ps prices i c.pair_at-p.result c.requires c.loop-row-test.true c.pair_at-p.ensures.pair)
+    (zip_inside ps prices i c.requires c.loop-row-test.true) (zip_line ps prices i c.requires c.pair_at-p.result c.loop-row-test.true c.pair_at-p.ensures.pair)
     c.args.out.now.items c.loop-row.out.items c.print_pair_line.new.out.items c.loop-row.invariant part)
 
 pub loop-row-preserved : goal.loop-row-preserved
@@ -26,7 +26,7 @@ loop-row-preserved c =
     let fits : FitsSigned w128 (get_or prices i (pos 0)) = search rules in
     let all = simp (to_z-of_z fits) at c.in_ok-print_pair_line.ensures.ok in
     lines_more (λ e. pair_line e.0 e.1) (zip ps prices) i ((0, 0), pos 0) (pair_line c.pair_at-p.result (get_or prices i (pos 0)))
-    (zip_inside ps prices i c.requires c.loop-row-test.true) (zip_line ps prices i c.pair_at-p.result c.requires c.loop-row-test.true c.pair_at-p.ensures.pair)
+    (zip_inside ps prices i c.requires c.loop-row-test.true) (zip_line ps prices i c.requires c.pair_at-p.result c.loop-row-test.true c.pair_at-p.ensures.pair)
     c.args.out.now.items c.loop-row.out.items c.print_pair_line.new.out.items c.loop-row.invariant all
 
 pub returns-clause-ok : goal.returns-clause-ok
