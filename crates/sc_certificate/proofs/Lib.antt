@@ -5,3 +5,4 @@ pub mod TextLaws
 pub mod LineLaws
 pub mod SpelledLaws
 pub mod PrintedLines
+pub mod BoundSums

@@ -6,3 +6,4 @@ pub mod Fronts
 pub mod FrontRead
 pub mod CertificateRead
 pub mod Spelled
+pub mod Bounds

@@ -1,6 +1,7 @@
 //! The text of a certificate: a surface with a price list, the tables that vouch for the list, and the journal of a solver.
 #![tactic(auto)]
 
+mod bounds;
 mod certificate;
 mod front;
 mod head;
@@ -12,6 +13,7 @@ mod printing;
 mod reader;
 mod tables;
 
+pub use bounds::{bound_from, word_price};
 pub use certificate::CertificateText;
 pub use laws::{
     certificate_text_is_faultless, certificate_text_is_of_one_certificate,

@@ -1,19 +1,15 @@
 -- The numbers of a list's form, and its value at a direction.
-use Rattle.std.proofs.Common.{◌≡◌, ◌≢◌, ℕ, ◌+◌, ◌*◌, ◌^◌, ◌<◌, ◌≤◌, [], ◌∷◌, refl, take, length, get_or, ℤ, pos, ◌+ℤ◌, ◌-ℤ◌, ◌*ℤ◌, ◌<ℤ◌, ◌↔◌, ◌==◌, Bool, IsTrue, Ordering, unsigned_abs, FitsSigned, add-one, arith, sym, ap, ap₂, subst, subst₂, ◌∙◌}
+use Rattle.std.proofs.Common.{◌≡◌, ℕ, ◌+◌, ◌*◌, ◌<◌, ◌≤◌, length, ℤ, pos, ◌+ℤ◌, ◌-ℤ◌, ◌*ℤ◌, ◌<ℤ◌, ◌↔◌, ◌==◌, Bool, IsTrue, Ordering, unsigned_abs, FitsSigned, arith, sym, ap, ap₂, subst, subst₂, ◌∙◌}
 use Rattle.std.specs.Int.{w128}
 use Rattle.std.specs.Cmp.{Equal-is}
 use Rattle.std.specs.Ordering.{int_cmp, ordering_index}
 use Rattle.std.proofs.lemmas.Cmp.{is_eq_index}
 use Rattle.sc_fraction.specs.Ints.{same_from_int_cmp, int_cmp_same}
 use Rattle.std.proofs.lemmas.Int.{ints}
-use Rattle.std.proofs.lemmas.List.Sums.{sum_by_more, sum_by-take-le}
-use Rattle.sc_algebra.specs.Sums.{sum_below}
-use Rattle.sc_algebra.proofs.Sums.{sum-congr}
-use Rattle.sc_theory.specs.Words.{Word}
-use Rattle.sc_theory.specs.Chains.{Chain, IsChain, no_word, weight, word, weighted_length}
-use Rattle.sc_theory.specs.Prices.{Prices, bound}
+use Rattle.sc_theory.specs.Chains.{Chain, weighted_length}
+use Rattle.sc_theory.specs.Prices.{Prices}
 use Rattle.sc_chain.specs.Faults.{IsSmallChain}
-use Rattle.sc_text.specs.PriceLines.{IsScaleInRange, IsPriceInRange}
+use Rattle.sc_text.specs.PriceLines.{IsScaleInRange}
 use Rattle.sc_cone.specs.declared.Direction.{Direction}
 use Rattle.sc_cone.specs.declared.Quadrant.{Quadrant}
 use Rattle.sc_cone.specs.Cones.{chain_of}
@@ -21,57 +17,13 @@ use Rattle.sc_cone.specs.Values.{IsValueOf, list_num, list_den, first_form}
 use Rattle.sc_cone.proofs.Forms.{value_by_form}
 use Rattle.sc_cone.proofs.NextDirections.{tight_by_value}
 use Rattle.sc_chain.specs.declared.limits.TheConstants.{MAX_LENGTH}
-use Rattle.sc_crossing.specs.Sizes.{bound_from, form_from, IsWithinPrices}
-use Rattle.sc_crossing.proofs.Sizes.{weighted_size, sum_size, difference_size, scaled_size, times_size, fits}
-
--- ---- a word's price
-
--- a price and a scale are no larger than the greatest price
-pub price_size : (z : ℤ) → IsPriceInRange z → IsWithinPrices 1 z
-price_size z h = omega (arith, ints, h.low, h.high)
+use Rattle.sc_certificate.specs.Bounds.{bound_from, IsWithinPrices}
+use Rattle.sc_certificate.proofs.BoundSums.{sum_size, fits, bound_from_first}
+use Rattle.sc_crossing.specs.Sizes.{form_from}
+use Rattle.sc_crossing.proofs.Sizes.{difference_size, scaled_size, times_size}
 
 pub scale_size : (z : ℤ) → IsScaleInRange z → IsWithinPrices 1 z
 scale_size z h = omega (arith, ints, h.low, h.high)
-
-some_letters : (c : Chain) (w : ℕ) → IsChain c → w < length c → 1 ≤ length (word c w)
-some_letters c w chain inside = nonempty (word c w) (chain.words w inside)
-  where
-    nonempty : (u : Word) → u ≢ [] → 1 ≤ length u
-    nonempty [] h = absurd (h refl)
-    nonempty (l ∷ u) h = omega arith
-
--- the weight of a word times a price is no larger than weight times length of the greatest prices, and fits
-pub weighted : (c : Chain) (w : ℕ) (z : ℤ) → IsChain c → w < length c → IsPriceInRange z → IsWithinPrices (weight c w * length (word c w)) (pos (weight c w) *ℤ z)
-weighted c w z chain inside price = weighted_size (weight c w) (length (word c w)) z (some_letters c w chain inside) (omega (arith, price_size z price))
-
-pub weighted_fits : (w : ℕ) (f z : ℤ) → f ≡ pos w → w < 2 ^ 32 → IsPriceInRange z → FitsSigned w128 (f *ℤ z)
-weighted_fits w f z is small price =
-    subst (λ (g : ℤ). FitsSigned w128 (g *ℤ z)) (sym is)
-    (fits (w * 1) (pos w *ℤ z) (omega (arith, small)) (weighted_size w 1 z (omega arith) (omega (arith, price_size z price))))
-
--- ---- the bound of some words
-
-weights_more : (c : Chain) (w : ℕ) → w < length c → weighted_length (take (w + 1) c) ≡ weighted_length (take w c) + weight c w * length (word c w)
-weights_more c w inside = sum_by_more (λ (u : ℕ × Word). u.0 * length u.1) c w no_word inside
-
-weights_most : (c : Chain) (w : ℕ) → weighted_length (take w c) ≤ weighted_length c
-weights_most c w = sum_by-take-le (λ (u : ℕ × Word). u.0 * length u.1) c w
-
-module _ (c : Chain) (w : ℕ) (x y : ℤ) (small : IsSmallChain c) (inside : w < length c)
-    (before : IsWithinPrices (weighted_length (take w c)) x) (here : IsWithinPrices (weight c w * length (word c w)) y) where
-  -- the bound of one word more is no larger than the words' weighted length of the greatest prices, and fits
-  pub total_more : IsWithinPrices (weighted_length (take (w + 1) c)) (x +ℤ y)
-  total_more =
-      subst (λ (k : ℕ). IsWithinPrices k (x +ℤ y)) (sym (weights_more c w inside))
-      (sum_size (weighted_length (take w c)) (weight c w * length (word c w)) x y before here)
-
-  pub total_fits : FitsSigned w128 (x +ℤ y)
-  total_fits = fits (weighted_length (take (w + 1) c)) (x +ℤ y) (omega (arith, weights_most c (w + 1), small.light)) total_more
-
--- the next number added, a sum is that of one number more
-pub sum_more : (f : ℕ → ℤ) (w : ℕ) (x y : ℤ) → x ≡ sum_below f w → y ≡ f w → x +ℤ y ≡ sum_below f (w + 1)
-sum_more f w x y before here =
-    ap (λ (z : ℤ). z +ℤ y) before ∙ ap (λ (z : ℤ). sum_below f w +ℤ z) here ∙ ap (sum_below f) (sym (add-one w))
 
 -- ---- the form
 
@@ -119,12 +71,7 @@ module _ (c : Chain) (list : Prices) (k : ℕ) (d f b : ℤ) (small : IsSmallCha
 
 -- the form of the words from the first on is the first chain's
 pub first_form_is : (first : Chain) (list : Prices) → form_from first list 0 ≡ first_form first list
-first_form_is first list = ap (λ (z : ℤ). list.scale *ℤ pos (weighted_length first) -ℤ pos 2 *ℤ z) same
-  where
-    same : bound_from first list 0 ≡ bound first list
-    same =
-        sum-congr (λ w. pos (weight first w) *ℤ get_or list.base (0 + w) (pos 0)) (λ w. pos (weight first w) *ℤ get_or list.base w (pos 0)) (length first)
-        (λ w inside. ap (λ (v : ℕ). pos (weight first w) *ℤ get_or list.base v (pos 0)) (omega arith))
+first_form_is first list = ap (λ (z : ℤ). list.scale *ℤ pos (weighted_length first) -ℤ pos 2 *ℤ z) (bound_from_first first list)
 
 -- ---- the value at a direction
 

@@ -1,18 +1,9 @@
--- The numbers of a list's form, and how large they are.
-use Rattle.std.specs.Prelude.{ℕ, ◌+◌, ◌*◌, ◌≤◌, length, get_or, ℤ, pos, ◌-ℤ◌, ◌*ℤ◌, unsigned_abs}
-use Rattle.sc_algebra.specs.Sums.{sum_below}
-use Rattle.sc_theory.specs.Chains.{Chain, weight, weighted_length}
+-- The numbers of a list's form.
+use Rattle.std.specs.Prelude.{ℕ, ℤ, pos, ◌-ℤ◌, ◌*ℤ◌}
+use Rattle.sc_theory.specs.Chains.{Chain, weighted_length}
 use Rattle.sc_theory.specs.Prices.{Prices}
-use Rattle.sc_text.specs.declared.limits.TheConstants.{MAX_PRICE}
+use Rattle.sc_certificate.specs.Bounds.{bound_from}
 
--- weight times price, summed over the words of a chain, the first of which is the word number k of the list
-abbrev pub bound_from : Chain → Prices → ℕ → ℤ
-bound_from c list k = sum_below (λ w. pos (weight c w) *ℤ get_or list.base (k + w) (pos 0)) (length c)
-
--- what these words give the list's value each time that they are taken
+-- what the words of a chain give a list's value each time that they are taken; the first is the list's word number k
 abbrev pub form_from : Chain → Prices → ℕ → ℤ
 form_from c list k = list.scale *ℤ pos (weighted_length c) -ℤ pos 2 *ℤ bound_from c list k
-
--- no larger than k of the greatest prices
-abbrev pub IsWithinPrices : ℕ → ℤ → Type 0
-IsWithinPrices k z = unsigned_abs z ≤ k * unsigned_abs MAX_PRICE

@@ -1,46 +1,13 @@
 //! The numbers of a price list's form.
 
-ghost use Rattle.std.specs.Prelude.{◌≡◌, ◌+◌, ◌*◌, ◌<◌, ◌≤◌, length, get_or, pos, ◌*ℤ◌};
-ghost use Rattle.sc_theory.specs.Chains.{weight, word, weighted_length};
-ghost use Rattle.sc_chain.specs.Faults.{IsSmallChain};
+ghost use Rattle.std.specs.Prelude.{◌≡◌, ◌*◌, ◌≤◌};
+ghost use Rattle.sc_theory.specs.Chains.{weighted_length};
 ghost use Rattle.sc_chain.specs.declared.limits.TheConstants.{MAX_WORDS};
-ghost use Rattle.sc_text.specs.PriceLines.{IsPriceInRange};
-ghost use Rattle.sc_crossing.specs.Sizes.{bound_from, form_from, IsWithinPrices};
+ghost use Rattle.sc_certificate.specs.Bounds.{IsWithinPrices};
+ghost use Rattle.sc_crossing.specs.Sizes.{form_from};
 
-use sc_certificate::PriceList;
+use sc_certificate::{PriceList, bound_from};
 use sc_chain::Chain;
-
-/// The price of a word, and 0 past the list's end.
-fn word_price(list: &PriceList, w: usize) -> i128
-    ensures price { result ≡ get_or list.now.base w (pos 0) }
-    ensures small { IsPriceInRange result }
-{
-    list.base().get(w).copied().unwrap_or(0)
-}
-
-/// The price of the word `w` of a chain, as often as its weight says. The first word is the list's word number `from`.
-fn weighted_price(chain: &Chain, list: &PriceList, from: usize, w: usize) -> i128
-    requires from { from ≤ MAX_WORDS }
-    requires in_range { w < length chain.now }
-    requires chain { IsSmallChain chain.now }
-    ensures price { result ≡ pos (weight chain.now w) *ℤ get_or list.now.base (from + w) (pos 0) }
-    ensures small { IsWithinPrices (weight chain.now w * length (word chain.now w)) result }
-{
-    i128::from(chain.weight(w)) * word_price(list, from + w)
-}
-
-/// The sum of weight times price over the words of a chain, the first of which is the list's word number `from`.
-fn bound_from(chain: &Chain, list: &PriceList, from: usize) -> i128
-    requires { from ≤ MAX_WORDS }
-    ensures bound { result ≡ bound_from chain.now list.now from }
-    ensures small { IsWithinPrices (weighted_length chain.now) result }
-{
-    let mut total = 0;
-    for w in 0..chain.words() {
-        total += weighted_price(chain, list, from, w);
-    }
-    total
-}
 
 /// What the words of a chain give a list's value each time that they are taken, by the unit of 4 times the scale.
 pub(crate) fn form_number(chain: &Chain, list: &PriceList, from: usize) -> i128

@@ -1,19 +1,16 @@
 -- Sums of prices, each so many times, keep within 128 bits.
-use Rattle.std.proofs.Common.{◌≡◌, ◌≢◌, ◌↔◌, IsTrue, nat_eq, ℕ, zero, suc, ◌+◌, ◌*◌, ◌^◌, ◌<◌, ◌≤◌, [], ◌∷◌, refl, take, length, ℤ, pos, neg_ℤ, ◌+ℤ◌, ◌*ℤ◌, ◌≤ℤ◌, FitsSigned, to_z, of_z, to_z-of_z, Some, add-one, arith, sym, ap, subst, ◌∙◌}
+use Rattle.std.proofs.Common.{◌≡◌, ◌↔◌, IsTrue, nat_eq, ℕ, zero, suc, ◌+◌, ◌*◌, ◌^◌, ◌<◌, ◌≤◌, length, ℤ, pos, neg_ℤ, ◌+ℤ◌, ◌*ℤ◌, ◌≤ℤ◌, FitsSigned, to_z, of_z, to_z-of_z, Some, arith, sym, ap, subst, ◌∙◌}
 use Rattle.std.specs.Int.{w128}
 use borrow.Author.Tests.{eqb-true}
 use Rattle.std.proofs.lemmas.Bool.{eq-eqb}
 use Rattle.std.proofs.lemmas.Int.{ints}
-use Rattle.std.proofs.lemmas.List.Sums.{sum_by_more, sum_by-take-le}
 use Rattle.sc_algebra.proofs.Ints.{mul_comm, mul_neg, pos-mul, pos-le, mul-le_left, mul-le_right, mul_assoc}
-use Rattle.sc_algebra.specs.Sums.{sum_below}
-use Rattle.sc_theory.specs.Words.{Word}
-use Rattle.sc_theory.specs.Chains.{Chain, IsChain, no_word, weight, word, weighted_length}
+use Rattle.sc_theory.specs.Chains.{Chain, weight, weighted_length}
 use Rattle.sc_theory.proofs.FatgraphLaws.{length_is}
-use Rattle.sc_chain.specs.Faults.{IsSmallChain}
 use Rattle.sc_text.specs.declared.limits.TheConstants.{MAX_PRICE}
 use Rattle.sc_text.specs.PriceLines.{IsScaleInRange, IsPriceInRange}
 use Rattle.sc_text.specs.TableLines.{IsEntryInRange}
+use Rattle.sc_certificate.specs.Bounds.{IsWithinPrices}
 use Rattle.sc_prices.specs.Sizes.{AreVertices, IsOfPrices}
 
 pub no_prices : IsOfPrices 0 (pos 0)
@@ -39,40 +36,14 @@ prices_add j k x y a b = record { low = omega (arith, ints, a.low, b.low); high 
 pub prices_fit : (k : ℕ) (z : ℤ) → k ≤ 2 ^ 32 → IsOfPrices k z → FitsSigned w128 z
 prices_fit k z few h = omega (arith, ints, h.low, h.high, few)
 
--- one word more
-pub weights_more : (c : Chain) (w : ℕ) → w < length c → weighted_length (take (w + 1) c) ≡ weighted_length (take w c) + weight c w * length (word c w)
-weights_more c w inside = sum_by_more (λ (u : ℕ × Word). u.0 * length u.1) c w no_word inside
-
--- the weighted length of the first words is at most that of the chain
-pub weights_most : (c : Chain) (w : ℕ) → weighted_length (take w c) ≤ weighted_length c
-weights_most c w = sum_by-take-le (λ (u : ℕ × Word). u.0 * length u.1) c w
-
--- each word of a chain has a letter
-pub some_letters : (c : Chain) (w : ℕ) → IsChain c → w < length c → 1 ≤ length (word c w)
-some_letters c w chain inside = nonempty (word c w) (chain.words w inside)
-  where
-    nonempty : (u : Word) → u ≢ [] → 1 ≤ length u
-    nonempty [] h = absurd (h refl)
-    nonempty (l ∷ u) h = omega arith
-
 -- a price of 90 bits, as often as a weight of 32 bits says
 pub price_times_fits : (w : ℕ) (f z : ℤ) → f ≡ pos w → w < 2 ^ 32 → IsPriceInRange z → FitsSigned w128 (f *ℤ z)
 price_times_fits w f z is small price =
     subst (λ (g : ℤ). FitsSigned w128 (g *ℤ z)) (sym is) (prices_fit (w * 1) (pos w *ℤ z) (omega arith) (prices_times w 1 z (omega arith) price))
 
-module _ (c : Chain) (w : ℕ) (x y : ℤ) (small : IsSmallChain c) (inside : w < length c)
-    (before : IsOfPrices (weighted_length (take w c)) x) (here : IsOfPrices (weight c w * length (word c w)) y) where
-  -- with one word more, a total is of at most as many prices as the weighted length of these words, and fits
-  pub total_more : IsOfPrices (weighted_length (take (w + 1) c)) (x +ℤ y)
-  total_more = subst (λ (k : ℕ). IsOfPrices k (x +ℤ y)) (sym (weights_more c w inside)) (prices_add _ _ x y before here)
-
-  pub total_fits : FitsSigned w128 (x +ℤ y)
-  total_fits = prices_fit (weighted_length (take (w + 1) c)) (x +ℤ y) (omega (arith, weights_most c (w + 1), small.light)) total_more
-
--- a sum and the next term make the sum with one term more
-pub sum_more : (f : ℕ → ℤ) (w : ℕ) (x y : ℤ) → x ≡ sum_below f w → y ≡ f w → x +ℤ y ≡ sum_below f (w + 1)
-sum_more f w x y before here =
-    ap (λ (z : ℤ). z +ℤ y) before ∙ ap (λ (z : ℤ). sum_below f w +ℤ z) here ∙ ap (sum_below f) (sym (add-one w))
+-- what is within k prices is at most k prices in size
+pub of_prices : (k : ℕ) (z : ℤ) → IsWithinPrices k z → IsOfPrices k z
+of_prices k z h = record { low = omega (arith, ints, h); high = omega (arith, ints, h) }
 
 -- a number of 128 bits as the code holds it
 abbrev held : ℤ → ℤ

@@ -1,6 +1,6 @@
 //! The prices of words and of steps.
 
-ghost use Rattle.std.specs.Prelude.{◌≡◌, ◌<◌, length, get_or, pos};
+ghost use Rattle.std.specs.Prelude.{◌≡◌, ◌<◌, length};
 ghost use Rattle.sc_theory.specs.Chains.{positions};
 ghost use Rattle.sc_theory.specs.Prices.{pairs as inverse_pairs, price, base_price};
 ghost use Rattle.sc_text.specs.PriceLines.{IsPriceInRange};
@@ -8,7 +8,7 @@ ghost use Rattle.sc_chain.specs.Pairs.{row_in, row_price};
 ghost use Rattle.sc_certificate.specs.Sizes.{FitsCounts};
 ghost use Rattle.sc_prices.specs.Sizes.{IsOfPrices};
 
-use sc_certificate::PriceList;
+use sc_certificate::{PriceList, word_price};
 use sc_chain::{Chain, Pairs, Sign};
 
 /// The price of two positions: that of their pair, its sign by their order, and 0 where they are no pair.
@@ -22,15 +22,6 @@ fn pair_price(pairs: &Pairs, list: &PriceList, p: usize, q: usize) -> i128
         Some((row, Sign::Minus)) => -list.pair()[row],
         None => 0,
     }
-}
-
-/// The price of a word.
-pub(crate) fn word_price(list: &PriceList, w: usize) -> i128
-    requires { w < length list.now.base }
-    ensures price { result ≡ get_or list.now.base w (pos 0) }
-    ensures small { IsPriceInRange result }
-{
-    list.base()[w]
 }
 
 /// The price of the word that a position is the first of, and 0 for other positions.

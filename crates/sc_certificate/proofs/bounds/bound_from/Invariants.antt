@@ -1,8 +1,8 @@
 use Rattle.std.proofs.Common.{◌≡◌, ◌+◌, pos, get_or, take, ◌*ℤ◌}
 use Rattle.sc_algebra.specs.Sums.{sum_below}
 use Rattle.sc_theory.specs.Chains.{weight, weighted_length}
-use Rattle.sc_crossing.specs.Sizes.{IsWithinPrices}
-use Rattle.sc_crossing.proofs.numbers.bound_from.Given as goal
+use Rattle.sc_certificate.specs.Bounds.{IsWithinPrices}
+use Rattle.sc_certificate.proofs.bounds.bound_from.Given as goal
 
 abbrev pub invariant-loop-w : goal.invariant-loop-w
 invariant-loop-w l = record {

@@ -1,8 +1,8 @@
 use Rattle.std.proofs.Common.{◌+◌, ◌*ℤ◌, ◌+ℤ◌, ℤ, pos, get_or, FitsSigned, to_z, to_z-of_z, rules}
 use Rattle.std.specs.Int.{w128}
 use Rattle.sc_theory.specs.Chains.{weight}
-use Rattle.sc_crossing.proofs.FormNumbers.{total_more, total_fits, sum_more}
-use Rattle.sc_crossing.proofs.numbers.bound_from.Goals as goal
+use Rattle.sc_certificate.proofs.BoundSums.{total_more, total_fits, sum_more}
+use Rattle.sc_certificate.proofs.bounds.bound_from.Goals as goal
 
 pub loop-w-preserved : goal.loop-w-preserved
 loop-w-preserved c =

@@ -1,9 +1,9 @@
 use Rattle.std.proofs.Common.{◌≡◌, ◌*◌, ◌*ℤ◌, ◌∙◌, length, ℤ, ap, pos, sym, subst, FitsSigned, to_z-of_z, arith, rules}
 use Rattle.std.specs.Int.{w128}
 use Rattle.sc_theory.specs.Chains.{weight, word}
-use Rattle.sc_crossing.specs.Sizes.{IsWithinPrices}
-use Rattle.sc_crossing.proofs.FormNumbers.{weighted, weighted_fits}
-use Rattle.sc_crossing.proofs.numbers.weighted_price.Goals as goal
+use Rattle.sc_certificate.specs.Bounds.{IsWithinPrices}
+use Rattle.sc_certificate.proofs.BoundSums.{weighted, weighted_fits}
+use Rattle.sc_certificate.proofs.bounds.weighted_price.Goals as goal
 
 pub overflow_mul-result : goal.overflow_mul-result
 overflow_mul-result c =
