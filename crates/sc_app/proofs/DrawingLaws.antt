@@ -11,7 +11,7 @@ use Rattle.sc_algebra.proofs.Cycles.{iterate-add, iterate-last, least_from_all}
 use Rattle.sc_chain.specs.Spelling.{letter_byte}
 use Rattle.sc_theory.specs.Chains.{Chain, letter}
 use Rattle.sc_theory.specs.Fatgraphs.{Sides, IsFatgraph, label, mate, turn, vertices}
-use Rattle.sc_fatgraph.specs.Orbits.{IsRibbon}
+use Rattle.sc_fatgraph.specs.inside.Orbits.{IsRibbon}
 use Rattle.sc_fatgraph.proofs.MarkedOrbits.{turn_permutes}
 use Rattle.sc_shape.specs.Classes.{entry}
 use Rattle.sc_shape.specs.Shapes.{list_below}

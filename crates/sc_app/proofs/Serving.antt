@@ -11,7 +11,8 @@ use Rattle.sc_app.specs.declared.status.Status.TheVariants.{Done, Malformed, Lar
 use Rattle.sc_app.specs.declared.status.What.TheVariants.{Words, Positions}
 use Rattle.sc_prices.specs.declared.verdict.Condition.TheVariants.{Flaw}
 use Rattle.sc_app.specs.Kinds.{StatusKind, WithText, WithoutText, PastLimit, Unasked, NotRead, NotWritten, NoMemory, kind_of}
-use Rattle.sc_app.specs.Reading.{reads, Fits, ReadWhole, ReadsUpTo, NeedsNoSource}
+use Rattle.sc_app.specs.Reading.{reads, ReadWhole, ReadsUpTo, NeedsNoSource}
+use Rattle.sc_app.specs.inside.Reading.{Fits}
 use Rattle.sc_theory.specs.Chains.{Chain}
 use Rattle.sc_theory.specs.Fatgraphs.{Sides as SideList}
 use Rattle.sc_app.specs.Said.{Refuses, RespondsBySides}

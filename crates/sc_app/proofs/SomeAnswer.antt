@@ -31,7 +31,7 @@ use Rattle.sc_prices.specs.declared.flaws.TableFlaw.{TableFlaw}
 use Rattle.sc_prices.specs.declared.flaws.TableFlaw.TheVariants.{Start, Step}
 use Rattle.sc_prices.specs.declared.verdict.Condition.TheVariants.{Flaw, Value, Table, NotTight}
 use Rattle.sc_prices.specs.Flaws.{HasStartFlaw, HasStepFlaw, HasTableFlaw, IsBefore, IsFirstTableFlaw}
-use Rattle.sc_prices.specs.Rows.{start_of}
+use Rattle.sc_prices.specs.inside.Rows.{start_of}
 use Rattle.sc_prices.proofs.TableFlaws.{flawless_vouch}
 use Rattle.sc_fraction.specs.declared.frac.Frac.{Frac}
 use Rattle.sc_fraction.specs.Frac.{IsQuotient}

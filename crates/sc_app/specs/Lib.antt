@@ -14,3 +14,4 @@ pub mod Check
 pub mod Scl
 pub mod Generate
 pub mod Answers
+pub mod inside

@@ -1,5 +1,5 @@
 -- What commands read of the source.
-use Rattle.std.specs.Prelude.{◌≡◌, ℕ, ◌+◌, ◌^◌, ◌<◌, ◌≤◌, List, [], length, Option, None, Some, IfSome}
+use Rattle.std.specs.Prelude.{◌≡◌, ℕ, ◌+◌, ◌^◌, ◌<◌, ◌≤◌, List, [], Option, None, Some, IfSome}
 use Rattle.sc_outside.specs.Told.{Delivered}
 use Rattle.sc_app.specs.declared.command.Command.{Command}
 use Rattle.sc_app.specs.declared.command.Command.TheVariants.{Surface, Shape, Check, Svg, Scl, Ball, Generate}
@@ -49,11 +49,6 @@ given_to (Some c) left = given (reads c) left
 
 abbrev pub input_for : List (List ℕ) → Option (List ℕ) → Option (List ℕ)
 input_for words left = given_to (form words) left
-
--- an input that isn't over the limit; of one who reads nothing it is empty
-abbrev pub Fits : Reading → List ℕ → Type 0
-Fits Nothing input = input ≡ []
-Fits (AtMost limit) input = length input ≤ limit
 
 -- the limit is a size that can be read
 abbrev pub IsReadable : Reading → Type 0

@@ -14,7 +14,8 @@ use Rattle.sc_gluing.proofs.StepCounts.{cycles_of_parts}
 use Rattle.sc_gluing.proofs.Sizes.{cycles_size}
 use Rattle.sc_gluing.proofs.PartSizes.{size-append, size-replicate}
 use Rattle.sc_assembly.specs.declared.parts.Part.{Part}
-use Rattle.sc_assembly.specs.Multiples.{IsTimes, MakesWhole, IsLeastCommon, AreCounts, counted, AreValues, IsCountable}
+use Rattle.sc_assembly.specs.Multiples.{IsTimes, MakesWhole, IsLeastCommon, AreCounts, counted, AreValues}
+use Rattle.sc_assembly.specs.inside.Multiples.{IsCountable}
 use Rattle.sc_assembly.proofs.Wholes.{denominator_of_zero, whole_from_divide, common}
 
 -- the sides of the copies of one part more

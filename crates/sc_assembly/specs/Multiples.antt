@@ -1,5 +1,5 @@
 -- Multiples of the values of parts that are whole numbers.
-use Rattle.std.specs.Prelude.{◌≡◌, ℕ, ◌*◌, ◌^◌, ◌<◌, ◌≤◌, List, [], ◌∷◌, take, slice_get, Some, ℤ, pos, ◌*ℤ◌, ◌≤ℤ◌, unsigned_abs}
+use Rattle.std.specs.Prelude.{◌≡◌, ℕ, ◌*◌, ◌<◌, ◌≤◌, List, [], ◌∷◌, take, slice_get, Some, ℤ, pos, ◌*ℤ◌, ◌≤ℤ◌, unsigned_abs}
 use Rattle.std.specs.Int.{◌∣◌}
 use Rattle.std.specs.List.{AllByRecursion}
 use Rattle.sc_theory.specs.Chains.{Chain, weighted_length}
@@ -71,7 +71,3 @@ pub record HasManySides (c : Chain) (parts : List Part) (part so_far : ℕ) (nex
 abbrev pub IsFaultOf : Chain → List Part → PartsFault → Type 0
 IsFaultOf c parts (Sides part so_far next) = HasManySides c parts part so_far next
 IsFaultOf c parts Memory = Unit {0}
-
--- n times the fraction is a number that fits 32 bits
-abbrev pub IsCountable : ℕ → Frac → Type 0
-IsCountable n v = (m : ℕ) × (m < 2 ^ 32) × IsTimes n v (pos m)

@@ -7,7 +7,8 @@ ghost use Rattle.sc_theory.specs.Chains.{weighted_length};
 ghost use Rattle.sc_fraction.specs.Frac.{denominator};
 ghost use Rattle.sc_gluing.specs.Gluing.{AreBalanced};
 ghost use Rattle.sc_assembly.specs.declared.counting.PartsFault.TheVariants.{Memory};
-ghost use Rattle.sc_assembly.specs.Multiples.{IsTimes, IsCountable, IsLeastCommon, IsLeastWhole, AreCounts, counted, AreValues, HasManySides, IsFaultOf};
+ghost use Rattle.sc_assembly.specs.Multiples.{IsTimes, IsLeastCommon, IsLeastWhole, AreCounts, counted, AreValues, HasManySides, IsFaultOf};
+ghost use Rattle.sc_assembly.specs.inside.Multiples.{IsCountable};
 
 use crate::parts::{Multiples, Part};
 use sc_chain::Chain;

@@ -12,8 +12,8 @@ use Rattle.sc_cone.specs.Values.{IsTightAt}
 use Rattle.sc_cone.specs.Fans.{Corner, Edge, no_corner, no_edge, IsGoodCorner, IsArc, IsHalf}
 use Rattle.sc_cone.specs.Searches.{Reached}
 use Rattle.sc_cone.proofs.Arcs.{arc_of_one, at_before, at_here, arc_pushed, arc_extended}
-use Rattle.sc_ball.specs.Neighbours.{IsClosed}
-use Rattle.sc_ball.specs.Arcs.{IsSpareOf, IsTightLast, list_in, AreArcTo, IsChosen}
+use Rattle.sc_ball.specs.inside.Neighbours.{IsClosed}
+use Rattle.sc_ball.specs.inside.Arcs.{IsSpareOf, IsTightLast, list_in, AreArcTo, IsChosen}
 
 -- the corner of the first entry is an arc without edges, with the entry's list to spare
 pub arc_begun : (q : Quadrant) (first second : Chain) (c : Corner) (r : Reached) → IsGoodCorner q first second c → c.direction ≡ first_end q → c.direction ≡ r.direction → AreArcTo q first second [] c [] None (Some r.list) 1 r

@@ -11,7 +11,7 @@ use Rattle.sc_theory.specs.Chains.{Chain}
 use Rattle.sc_cone.specs.declared.Quadrant.{Quadrant}
 use Rattle.sc_cone.specs.Searches.{Reached, reached, nothing_reached}
 use Rattle.sc_cone.proofs.Arcs.{at_here}
-use Rattle.sc_ball.specs.Neighbours.{IsClosed}
+use Rattle.sc_ball.specs.inside.Neighbours.{IsClosed}
 
 module _ {A : Type 0} (f : A → Reached) where
   -- what is read at a place

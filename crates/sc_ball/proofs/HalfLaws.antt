@@ -26,16 +26,23 @@ use Rattle.sc_fan.specs.FanRead.{edge_said}
 use Rattle.sc_ball.specs.declared.solved.Solved.{Solved}
 use Rattle.sc_ball.specs.declared.arcs.Arc.{Arc}
 use Rattle.sc_ball.specs.declared.arcs.Half.{Half}
-use Rattle.sc_ball.specs.Neighbours.{IsClosed}
-use Rattle.sc_ball.specs.Solved.{seen, IsSolvedIn}
-use Rattle.sc_ball.specs.Searched.{entries_of, IsSearchedTo}
-use Rattle.sc_ball.specs.Arcs.{IsSpareOf, IsTightLast, IsChosen, list_in}
-use Rattle.sc_ball.specs.Halves.{most_entries, corner_in, corner_at, ended_at, IsStepTo, IsArcTo, ArcIsTo, IsArcAlong, IsHalfFan}
+use Rattle.sc_ball.specs.inside.Neighbours.{IsClosed}
+use Rattle.sc_ball.specs.Solved.{seen}
+use Rattle.sc_ball.specs.inside.Solved.{IsSolvedIn}
+use Rattle.sc_ball.specs.Searched.{entries_of}
+use Rattle.sc_ball.specs.inside.Searched.{IsSearchedTo}
+use Rattle.sc_ball.specs.inside.Arcs.{IsSpareOf, IsTightLast, IsChosen, list_in}
+use Rattle.sc_ball.specs.inside.Halves.{most_entries, ended_at, IsStepTo, IsArcTo, ArcIsTo, IsArcAlong, IsHalfFan}
+use Rattle.sc_ball.specs.Halves.{corner_in}
 use Rattle.sc_ball.proofs.EntryLists.{reached_at}
 use Rattle.sc_ball.proofs.ArcSteps.{arc_begun, arc_goes_on, arc_pushed_on, half_of_arc}
 use Rattle.sc_ball.proofs.SearchLaws.{row_of, entry_has, few_entries}
 
+abbrev pub corner_at : Solved → Corner
+corner_at s = corner_said (corner_in s)
+
 -- ---- corners of solved directions
+
 range_of : (z : ℤ) → unsigned_abs z ≤ 1048576 → (neg_ℤ (pos 1048576) ≤ℤ z) × (z ≤ℤ pos 1048576)
 range_of (pos n) h = (omega (arith, ints), omega (arith, ints))
 range_of (negsuc n) h = (omega (arith, ints), omega (arith, ints))
@@ -66,6 +73,7 @@ module _ (q : Quadrant) (first second : Chain) (s : Solved) (within : IsIn q s.r
   }
 
 -- ---- an arc goes on to the next entry
+
 module _ (q : Quadrant) (first second : Chain) where
   abbrev HasList : Edge → Type 0
   HasList e = IsListFor (quadrant_chain q first second) e.list
@@ -120,6 +128,7 @@ module _ (q : Quadrant) (first second : Chain) where
         }
 
 -- ---- the same in the parts of an arc
+
 arc_same : (q : Quadrant) (first second : Chain) (corners corners' : List Corner) (last last' : Corner) (edges edges' : List Edge) (edge edge' : Option Edge) (spare spare' : Option Prices) (n : ℕ) (r : Reached)
     → corners' ≡ corners → last' ≡ last → edges' ≡ edges → edge' ≡ edge → spare' ≡ spare → IsArcTo q first second corners last edges edge spare n r → IsArcTo q first second corners' last' edges' edge' spare' n r
 arc_same q first second corners corners' last last' edges edges' edge edge' spare spare' n r p q' s t u arc =
@@ -199,6 +208,7 @@ finished_ok q first second a n r (Ok h) corners edges arc ends few = finished_is
 finished_ok q first second a n r (Err e) corners edges arc ends few = tt
 
 -- ---- along a whole search
+
 module _ (q : Quadrant) (first second : Chain) (is_first : IsChain first) (is_second : IsChain second) (entries : List Solved) (searched : IsSearchedTo q first second entries (length entries)) where
   abbrev rs : List Reached
   rs = entries_of entries

@@ -8,7 +8,7 @@ use Rattle.std.proofs.lemmas.List.Elements.{All-append, All-pop, recursion_from_
 use Rattle.sc_theory.specs.Chains.{Chain, positions}
 use Rattle.sc_theory.specs.Prices.{Prices}
 use Rattle.sc_chain.specs.declared.limits.TheConstants.{MAX_WORDS, MAX_POSITIONS}
-use Rattle.sc_fraction.specs.Laws.{same_frac}
+use Rattle.sc_fraction.proofs.SameValues.{same_frac}
 use Rattle.sc_text.specs.Surfaces.{IsChainInRange}
 use Rattle.sc_text.specs.Words.{IsWordInRange}
 use Rattle.sc_text.specs.ValueLines.{quotient_of}
@@ -21,7 +21,7 @@ use Rattle.sc_fan.specs.Corners.{corner_said, IsCornerInRange}
 use Rattle.sc_fan.specs.Fans.{IsListFor, edge_chain, IsFanInRange}
 use Rattle.sc_fan.specs.FanRead.{edge_said, fan_said, plane_fan}
 use Rattle.sc_ball.specs.declared.arcs.Half.{Half}
-use Rattle.sc_ball.specs.Halves.{HaveRanges, IsHalfFan}
+use Rattle.sc_ball.specs.inside.Halves.{HaveRanges, IsHalfFan}
 use Rattle.sc_ball.proofs.HalfPairs.{last_is_right, first_is_right, one_value, fan_of_two}
 use Rattle.sc_ball.proofs.FanRanges.{half_has_two, lists_of_two, lists_by_number}
 

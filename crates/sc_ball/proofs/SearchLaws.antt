@@ -26,11 +26,13 @@ use Rattle.sc_cone.specs.Cones.{chain_of, quadrant_chain}
 use Rattle.sc_ball.specs.declared.fault.BallFault.{BallFault}
 use Rattle.sc_ball.specs.declared.solved.Solved.{Solved}
 use Rattle.sc_ball.specs.declared.searching.Stop.{Stop}
-use Rattle.sc_ball.specs.Neighbours.{IsClosed}
-use Rattle.sc_ball.specs.Solved.{seen, IsSmall, IsSolvedIn}
-use Rattle.sc_ball.specs.Searched.{entries_of, IsSearchedTo, IsEntryBetween, IsStopBetween}
+use Rattle.sc_ball.specs.inside.Neighbours.{IsClosed}
+use Rattle.sc_ball.specs.Solved.{seen}
+use Rattle.sc_ball.specs.inside.Solved.{IsSmall, IsSolvedIn}
+use Rattle.sc_ball.specs.Searched.{entries_of}
+use Rattle.sc_ball.specs.inside.Searched.{IsSearchedTo, IsEntryBetween, IsStopBetween}
 use Rattle.sc_ball.specs.Faults.{HaveListsFor, AreOpenIn, IsDue, IsUnsolved, IsBallFault, is_memory}
-use Rattle.sc_ball.specs.Halves.{most_entries}
+use Rattle.sc_ball.specs.inside.Halves.{most_entries}
 use Rattle.sc_ball.proofs.EntryLists.{reached_at, map-insert, closed_before, closed_further, All-insert}
 
 seen_in_turn : (entries : List Solved) → map reached_of (map (λ (s : Solved). s.reached) entries) ≡ entries_of entries

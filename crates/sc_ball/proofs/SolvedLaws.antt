@@ -30,7 +30,7 @@ use Rattle.sc_cone.proofs.ValueLaws.{value_from_tight, value_from_least, value_m
 use Rattle.sc_crossing.specs.Lengths.{IsLight}
 use Rattle.sc_fan.specs.Corners.{IsCornerValue}
 use Rattle.sc_ball.specs.declared.solved.Solved.{Solved}
-use Rattle.sc_ball.specs.Solved.{IsSmall, IsSolvedIn}
+use Rattle.sc_ball.specs.inside.Solved.{IsSmall, IsSolvedIn}
 
 -- ---- the value
 cost_within : (g : Sides) → cost g ≤ℤ pos (length g)

@@ -9,9 +9,10 @@ ghost use Rattle.sc_cone.specs.Directions.{first_end, last_end};
 ghost use Rattle.sc_cone.specs.Searches.{reached, IsOpen, IsGap, IsNext};
 ghost use Rattle.sc_crossing.specs.Lengths.{IsLight};
 ghost use Rattle.sc_crossing.specs.Neighbours.{reached_of};
-ghost use Rattle.sc_ball.specs.Neighbours.{IsClosed};
-ghost use Rattle.sc_ball.specs.Solved.{seen, IsSolvedIn};
-ghost use Rattle.sc_ball.specs.Searched.{SpanPlane, IsSearchedTo, IsEntryBetween, IsStopBetween};
+ghost use Rattle.sc_ball.specs.inside.Neighbours.{IsClosed};
+ghost use Rattle.sc_ball.specs.Solved.{seen};
+ghost use Rattle.sc_ball.specs.inside.Solved.{IsSolvedIn};
+ghost use Rattle.sc_ball.specs.inside.Searched.{SpanPlane, IsSearchedTo, IsEntryBetween, IsStopBetween};
 ghost use Rattle.sc_ball.specs.Faults.{AreOpenIn, IsUnsolved, IsUncrossed, IsBallFault, is_memory};
 
 use crate::fault::BallFault;

@@ -7,8 +7,8 @@ ghost use Rattle.sc_chain.specs.Faults.{IsSmallChain};
 ghost use Rattle.sc_cone.specs.Cones.{chain_of};
 ghost use Rattle.sc_crossing.specs.Lengths.{IsLight};
 ghost use Rattle.sc_solve.specs.Solutions.{IsStopped};
-ghost use Rattle.sc_ball.specs.Solved.{IsSmall, IsSolvedIn};
-ghost use Rattle.sc_ball.specs.Searched.{SpanPlane};
+ghost use Rattle.sc_ball.specs.inside.Solved.{IsSmall, IsSolvedIn};
+ghost use Rattle.sc_ball.specs.inside.Searched.{SpanPlane};
 
 use sc_chain::Chain;
 use sc_cone::{Direction, Quadrant};

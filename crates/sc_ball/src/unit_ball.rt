@@ -8,9 +8,9 @@ ghost use Rattle.sc_cone.specs.declared.Quadrant.TheVariants.{Lower, Upper};
 ghost use Rattle.sc_cone.specs.Fans.{IsFan};
 ghost use Rattle.sc_fan.specs.Fans.{IsFanInRange};
 ghost use Rattle.sc_fan.specs.FanRead.{fan_said, plane_fan};
-ghost use Rattle.sc_ball.specs.Searched.{SpanPlane};
+ghost use Rattle.sc_ball.specs.inside.Searched.{SpanPlane};
 ghost use Rattle.sc_ball.specs.Faults.{IsBallFault};
-ghost use Rattle.sc_ball.specs.Halves.{IsHalfFan};
+ghost use Rattle.sc_ball.specs.inside.Halves.{IsHalfFan};
 
 use crate::arcs::{Half, half_of};
 use crate::fault::BallFault;

@@ -16,7 +16,8 @@ use Rattle.sc_cone.proofs.SameWords.{Same}
 use Rattle.sc_cone.proofs.ConeChains.{same_quadrant}
 use Rattle.sc_crossing.specs.declared.reached.Reached.{Reached as ReachedParts}
 use Rattle.sc_crossing.specs.Neighbours.{reached_of}
-use Rattle.sc_ball_refusal.specs.Texts.{Shown, named_direction, reached_lines, search_lines, reached_text}
+use Rattle.sc_ball_refusal.specs.Texts.{Shown, named_direction, reached_lines, search_lines}
+use Rattle.sc_ball_refusal.specs.inside.Texts.{reached_text}
 
 -- ---- the pairs of a quadrant's chain are those of each direction's
 

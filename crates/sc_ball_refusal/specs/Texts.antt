@@ -5,9 +5,9 @@ use Rattle.sc_theory.specs.Chains.{Chain}
 use Rattle.sc_chain.specs.declared.polygon.Pivot.{Pivot}
 use Rattle.sc_fraction.specs.declared.frac.Frac.{Frac}
 use Rattle.sc_fraction.specs.Frac.{frac_text}
-use Rattle.sc_line.specs.Lines.{Line, Field, spaced, ended, text_of, numbers_line, count_line}
+use Rattle.sc_line.specs.Lines.{Line, Field, spaced, text_of, numbers_line, count_line}
 use Rattle.sc_text.specs.Surfaces.{ending}
-use Rattle.sc_certificate.specs.Spelled.{list_lines, list_text}
+use Rattle.sc_certificate.specs.Spelled.{list_lines}
 use Rattle.sc_rows.specs.declared.fault.WideAt.{WideAt}
 use Rattle.sc_cone.specs.declared.Direction.{Direction}
 use Rattle.sc_cone.specs.declared.Quadrant.{Quadrant}
@@ -43,15 +43,12 @@ reached_lines c r = named_direction (codes "at") r.direction ∷ list_lines c r.
 abbrev pub search_lines : Shown → List Line
 search_lines v = count_line (codes "search") (length v.entries) ∷ flat_map (reached_lines (quadrant_chain v.quadrant v.first v.second)) v.entries
 
--- the bytes of a direction with its list, by the pairs of the quadrant's chain
-abbrev pub reached_text : List (ℕ × ℕ) → Reached → List ℕ
-reached_text ps r = ended (named_direction (codes "at") r.direction) ++ list_text ps r.list
-
 -- what each text begins with: its heading and the search
 abbrev pub front_lines : Line → Shown → List Line
 front_lines heading v = heading ∷ search_lines v
 
 -- ---- a direction isn't solved
+
 -- the direction stands before the body of a solver's refusal, whose chain is that of the direction
 abbrev pub unsolved_front : Line → Shown → Direction → List Line
 unsolved_front heading v d = front_lines heading v ++ named_direction (codes "direction") d ∷ []
@@ -71,6 +68,7 @@ sides_text v d journal part value so_far next =
     text_of (unsolved_front refusals.sides_heading v d ++ refusals.sides_body (chain_at v d) journal part value so_far next)
 
 -- ---- two neighbours have no next direction
+
 abbrev pub ends_line : Direction → Direction → Line
 ends_line from to = numbers_line (codes "ends") (from.s ∷ from.t ∷ to.s ∷ to.t ∷ [])
 

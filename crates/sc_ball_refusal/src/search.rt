@@ -10,6 +10,7 @@ ghost use Rattle.sc_line.specs.Lines.{ended, text_of};
 ghost use Rattle.sc_cone.specs.Cones.{quadrant_chain};
 ghost use Rattle.sc_crossing.specs.Neighbours.{reached_of};
 ghost use Rattle.sc_ball_refusal.specs.Texts as texts;
+ghost use Rattle.sc_ball_refusal.specs.inside.Texts as inside;
 
 use sc_certificate::print_list;
 use sc_chain::{Chain, Pairs};
@@ -77,7 +78,7 @@ pub(crate) fn print_direction(
 /// Appends the lines of directions with their lists for the chain of these pairs.
 fn print_reached(pairs: &Pairs, reached: &[Reached], out: &mut Vec<u8>) -> Result<(), AllocError>
     ensures { OnOk result (out.new.items ≡ out.old.items
-        ++ flat_map (λ r. texts.reached_text pairs.now (reached_of r)) reached.now) }
+        ++ flat_map (λ r. inside.reached_text pairs.now (reached_of r)) reached.now) }
 {
     for entry in reached {
         print_direction(b"at", entry.direction, out)?;

@@ -4,11 +4,6 @@ use Rattle.sc_basis.specs.Products.{dot}
 use Rattle.sc_basis.specs.Bases.{Column, entry_of}
 use Rattle.sc_basis.specs.Standing.{BasisNumbers}
 use Rattle.sc_basis.specs.Lines.{LexLess, line}
-use Rattle.sc_basis.specs.Pivots.{Improves}
-
--- no column that there is improves
-abbrev pub IsOptimal : ℕ → (Column → Type 0) → BasisNumbers → Type 0
-IsOptimal r IsColumn t = (c : Column) → IsColumn c → ¬ Improves r t c
 
 -- the value of the item i is this number over the row's denominator
 abbrev pub value : ℕ → (ℕ → ℤ) → BasisNumbers → ℕ → ℤ

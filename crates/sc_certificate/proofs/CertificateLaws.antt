@@ -11,7 +11,8 @@ use Rattle.sc_chain.specs.declared.limits.TheConstants.{MAX_WORDS, MAX_POSITIONS
 use Rattle.sc_chain.proofs.PairLaws.{pairs_below}
 use Rattle.sc_chain.proofs.PairTables.{few_pairs}
 use Rattle.sc_line.specs.Lines.{Line, count_line, lacks, AllLack}
-use Rattle.sc_line.specs.Formats.{IsShort, IsCountInRange}
+use Rattle.sc_line.specs.Formats.{IsShort}
+use Rattle.sc_line.proofs.NumberLaws.{IsCountInRange}
 use Rattle.sc_line.specs.Forms.{Form, LineKind, IsLawful, literal, one, both}
 use Rattle.sc_line.proofs.FormatLaws.{short_more}
 use Rattle.sc_line.proofs.FormLaws.{AreAll, AreFew, lawful_both, lawful_as, lawful_one, lawful_literal, lawful_all, lawful_few}

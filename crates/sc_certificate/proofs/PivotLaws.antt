@@ -25,7 +25,8 @@ use Rattle.sc_line.specs.Lines.{AllLack, Line, Field, fields, number_of, first_n
 use Rattle.sc_line.specs.Formats.{IsLineKind}
 use Rattle.sc_line.proofs.LineLaws.{fields-spaced, lacks-spelling, number_of-spelling, number_of_is, number_of_from, named_is, taken_is, line_from_fields}
 use Rattle.sc_line.proofs.NumberLaws.{between-natural, named_inverse, IsLineOf, kind_from}
-use Rattle.sc_certificate.specs.PivotLines.{pivot_line, pivot_row, pivot_in, pivot_fault, walk_fault, IsNoPosition, is_natural, is_below, are_naturals, naturals_of, IsPivotInRange}
+use Rattle.sc_certificate.specs.PivotLines.{pivot_line, pivot_row, pivot_in, pivot_fault, is_natural, is_below, are_naturals, naturals_of, IsPivotInRange}
+use Rattle.sc_certificate.specs.inside.PivotLines.{walk_fault, IsNoPosition}
 
 abbrev numbers : List ℕ → List Field
 numbers walk = map (λ i. spelling (pos i)) walk

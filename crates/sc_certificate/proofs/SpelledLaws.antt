@@ -18,7 +18,14 @@ use Rattle.sc_text.specs.TableLines.{from_line, a_row}
 use Rattle.sc_text.specs.Surfaces.{ending}
 use Rattle.sc_certificate.specs.PivotLines.{pivot_line, a_pivot}
 use Rattle.sc_certificate.specs.Certificates.{Certificate, heading, certificate_lines}
-use Rattle.sc_certificate.specs.Spelled.{spelled_lines}
+use Rattle.sc_certificate.specs.Spelled.{list_lines, tables_lines, journal_lines}
+use Rattle.sc_text.specs.Printing.{words_lines, sides_lines}
+
+abbrev pub spelled_lines : Certificate → List Line
+spelled_lines v =
+    heading ∷ (words_lines v.chain
+    ++ (value_line v.value ∷ count_line (codes "copies") v.copies ∷ (sides_lines v.sides
+    ++ (list_lines v.chain v.list ++ (tables_lines v.tables ++ (journal_lines v.journal ++ ending ∷ []))))))
 
 pair_lines_are : (all front ps : List (ℕ × ℕ)) (before ys : List ℤ) → all ≡ front ++ ps → length before ≡ length front → length ys ≡ length ps
     → lines_after (λ (b : List ℤ). a_pair (get_or all (length b) (0, 0))) before ys ≡ map (λ e. pair_line e.0 e.1) (zip ps ys)

@@ -7,3 +7,4 @@ pub mod FrontRead
 pub mod CertificateRead
 pub mod Spelled
 pub mod Bounds
+pub mod inside

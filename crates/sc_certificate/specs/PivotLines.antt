@@ -1,5 +1,5 @@
 -- The line of a pivot.
-use Rattle.std.specs.Prelude.{◌≢◌, ℕ, ◌<◌, ◌≤◌, Bool, false, ◌&&◌, List, [], ◌∷◌, map, drop, Option, Some, None, is_some, if◌then◌else◌, pos, int_le, int_lt, codes}
+use Rattle.std.specs.Prelude.{ℕ, ◌<◌, Bool, false, ◌&&◌, List, [], ◌∷◌, map, drop, Option, Some, None, is_some, if◌then◌else◌, pos, int_le, int_lt, codes}
 use Rattle.std.specs.List.{list_all}
 use Rattle.std.specs.Option.{option_map_or}
 use Rattle.sc_whole.specs.Spelling.{spelling}
@@ -9,7 +9,6 @@ use Rattle.sc_theory.specs.Walks.{IsPolygon}
 use Rattle.sc_line.specs.declared.fault.Kind.{Kind}
 use Rattle.sc_line.specs.declared.fault.Kind.TheVariants.{Form, Range}
 use Rattle.sc_chain.specs.declared.polygon.Pivot.{Pivot}
-use Rattle.sc_chain.specs.declared.limits.TheConstants.{MAX_POSITIONS}
 use Rattle.sc_chain.specs.Polygons.{is_polygon}
 use Rattle.sc_line.specs.Lines.{Line, Field, spaced, fields, number_of, natural, natural_in}
 use Rattle.sc_line.specs.Faults.{NumberRange, named_fault}
@@ -33,10 +32,6 @@ are_naturals fs = list_all (λ f. option_map_or is_natural (number_of f) false) 
 abbrev pub naturals_of : List Field → List ℕ
 naturals_of fs = map (λ f. natural (number_of f)) fs
 
--- the fault of fields that are due to be a polygon of the chain
-abbrev pub walk_fault : Chain → List Field → Option Kind
-walk_fault c fs = if are_naturals fs && is_polygon c (naturals_of fs) then None else Some Form
-
 -- the fault of fields that are due to be a row of the chain and a polygon
 abbrev pub pivot_fault : Chain → List Field → Option Kind
 pivot_fault c [] = Some Form
@@ -47,10 +42,6 @@ pivot_fault c (row ∷ walk) =
 
 abbrev pub pivot_row : Chain → Line → Option Kind
 pivot_row c = named_fault (codes "pivot") (pivot_fault c)
-
--- whether no position of a small chain is spelled so
-abbrev pub IsNoPosition : Field → Type 0
-IsNoPosition f = (n : ℕ) → n ≤ MAX_POSITIONS → f ≢ spelling (pos n)
 
 -- the pivot in a line
 abbrev pub pivot_in : Line → Pivot

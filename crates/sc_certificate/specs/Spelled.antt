@@ -1,17 +1,13 @@
 -- The lines of a certificate, spelled out.
-use Rattle.std.specs.Prelude.{ℕ, ℤ, List, [], ◌∷◌, ◌++◌, map, length, codes}
+use Rattle.std.specs.Prelude.{ℕ, ℤ, List, ◌∷◌, ◌++◌, map, length, codes}
 use Rattle.std.specs.List.{zip, enumerate_from}
 use Rattle.sc_theory.specs.Chains.{Chain}
 use Rattle.sc_theory.specs.Prices.{Prices, Tables, pairs}
 use Rattle.sc_chain.specs.declared.polygon.Pivot.{Pivot}
 use Rattle.sc_line.specs.Lines.{Line, ended, text_of, count_line}
-use Rattle.sc_text.specs.Printing.{words_lines, sides_lines}
 use Rattle.sc_text.specs.PriceLines.{scale_line, base_line, pair_line}
-use Rattle.sc_text.specs.ValueLines.{value_line}
 use Rattle.sc_text.specs.TableLines.{from_line}
-use Rattle.sc_text.specs.Surfaces.{ending}
 use Rattle.sc_certificate.specs.PivotLines.{pivot_line}
-use Rattle.sc_certificate.specs.Certificates.{Certificate, heading}
 
 -- the lines of the prices of pairs
 abbrev pub pair_lines : List (ℕ × ℕ) → List ℤ → List Line
@@ -32,9 +28,3 @@ tables_lines tables = map (λ e. from_line e.0 e.1) (enumerate_from 0 tables)
 -- the lines of a journal: how many pivots there are, and the pivots
 abbrev pub journal_lines : List Pivot → List Line
 journal_lines journal = count_line (codes "pivots") (length journal) ∷ map pivot_line journal
-
-abbrev pub spelled_lines : Certificate → List Line
-spelled_lines v =
-    heading ∷ (words_lines v.chain
-    ++ (value_line v.value ∷ count_line (codes "copies") v.copies ∷ (sides_lines v.sides
-    ++ (list_lines v.chain v.list ++ (tables_lines v.tables ++ (journal_lines v.journal ++ ending ∷ []))))))

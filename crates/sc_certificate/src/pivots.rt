@@ -9,6 +9,7 @@ ghost use Rattle.sc_line.specs.declared.fault.Kind.TheVariants as kinds;
 ghost use Rattle.sc_line.specs.LineFaults.{IsFault};
 ghost use Rattle.sc_line.specs.Lines.{IsNarrowed};
 ghost use Rattle.sc_certificate.specs.PivotLines as lines;
+ghost use Rattle.sc_certificate.specs.inside.PivotLines as inside;
 
 use crate::head::Head;
 use sc_chain::limits::MAX_POSITIONS;
@@ -19,7 +20,7 @@ use std::alloc::Global;
 // The position that a field is.
 fn position(field: &[u8]) -> Result<u32, Kind>
     ensures ok { IfOk result (λ n. field.now ≡ spelling (pos n)) }
-    ensures err { IfErr result (λ kind. (kind ≡ kinds.Form) × lines.IsNoPosition field.now) }
+    ensures err { IfErr result (λ kind. (kind ≡ kinds.Form) × inside.IsNoPosition field.now) }
 {
     match in_range(number_of(field)?, 0, MAX_POSITIONS as u32) {
         Ok(position) => Ok(position),
@@ -31,7 +32,7 @@ fn position(field: &[u8]) -> Result<u32, Kind>
 fn walk_of(alloc: Global, mut fields: Fields) -> Result<Vec<u32>, LineFault>
     ensures ok { IfOk result (λ walk. fields.entry ≡ map (λ i. spelling (pos i)) walk.items) }
     ensures few { IfOk result (λ walk. length walk.items ≤ MAX_POSITIONS) }
-    ensures err { (c : AnyChain) → positions c ≤ MAX_POSITIONS → IfErr result (IsFault (lines.walk_fault c fields.entry)) }
+    ensures err { (c : AnyChain) → positions c ≤ MAX_POSITIONS → IfErr result (IsFault (inside.walk_fault c fields.entry)) }
 {
     let mut walk = Vec::new(alloc);
     while let Some(field) = fields.next() {

@@ -10,10 +10,16 @@ use Rattle.sc_algebra.proofs.Ints.{mul-zero}
 use Rattle.sc_theory.specs.declared.Letter.{Letter}
 use Rattle.sc_theory.specs.Words.{Word, is_positive, is_negative, total}
 use Rattle.sc_theory.specs.Chains.{Chain, IsBalanced, no_letter, weight, word, chain_total}
-use Rattle.sc_chain.specs.Balance.{IsTotalSoFar}
 use Rattle.sc_chain.specs.Faults.{IsSmallChain}
 use Rattle.sc_chain.specs.declared.limits.TheConstants.{GENERATORS}
 use Rattle.sc_chain.proofs.OneFault.{generators_of}
+use Rattle.std.specs.Prelude.{◌*◌}
+
+-- the total of the first n words
+pub record IsTotalSoFar (c : Chain) (g n : ℕ) (t : ℤ) : Type 0 where
+  pub total_is : t ≡ sum_below (λ w. pos (weight c w) *ℤ total g (word c w)) n
+  pub low : neg_ℤ (pos (n * 2 ^ 38)) ≤ℤ t
+  pub high : t ≤ℤ pos (n * 2 ^ 38)
 
 -- the total of the words so far, with that of one word more
 pub next_total : (c : Chain) (g n : ℕ) (t s : ℤ) → IsTotalSoFar c g n t → s ≡ pos (weight c n) *ℤ total g (word c n) →

@@ -8,7 +8,7 @@ use Rattle.sc_line.specs.declared.fault.Kind.{Kind}
 use Rattle.sc_line.specs.declared.fault.Kind.TheVariants.{Letter, Extra, NotAscii}
 use Rattle.sc_chain.specs.Spelling.{letter_of, word_of}
 use Rattle.sc_chain.specs.ChainText.{Line, line_fields, is_comment, line_case, is_ascii, line_kind, Field, Entry, coefficient_of, begins_number, with_coefficient, fields_case, fields_kind, word_kind, number_kind}
-use Rattle.sc_chain.specs.Decision.{last_word, behind_coefficient, decision}
+use Rattle.sc_chain.specs.inside.Decision.{last_word, behind_coefficient, decision}
 use Rattle.sc_chain.proofs.SpellingLaws.{are_letters, word_from_letters, word_from_others}
 use Rattle.sc_chain.proofs.CoefficientLaws.{number_no_word, other_no_coefficient}
 

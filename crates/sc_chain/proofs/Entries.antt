@@ -7,9 +7,18 @@ use Rattle.sc_theory.specs.declared.Letter.{Letter}
 use Rattle.sc_theory.specs.Chains.{Chain, no_letter, word, positions, first, word_of, letter}
 use Rattle.sc_chain.specs.declared.chain.Place.{Place}
 use Rattle.sc_chain.specs.Faults.{AreGoodBelow}
-use Rattle.sc_chain.specs.Tables.{no_place, place_between, AppendsBelow, AreTablesBelow, AreTables}
+use Rattle.sc_chain.specs.Tables.{no_place, AreTables}
+use Rattle.sc_chain.specs.inside.Tables.{place_between, AppendsBelow}
 use Rattle.sc_theory.proofs.ChainLaws.{Place as Placed, place, letter_place, first-suc, first_all, neighbours}
 use Rattle.sc_chain.proofs.Firsts.{first-mono, first-lt}
+
+-- the tables of the first n words of a chain
+pub record AreTablesBelow (c : Chain) (n : ℕ) (places : List Place) (firsts : List ℕ) : Type 0 where
+  pub len : length places ≡ first c n
+  pub firsts_len : length firsts ≡ n
+  pub first_at : (w : ℕ) → w < n → get_or firsts w 0 ≡ first c w
+  pub place_at : (w k : ℕ) → w < n → k < length (word c w) →
+      get_or places (first c w + k) no_place ≡ place_between (first c w) (first c w + length (word c w)) w (get_or (word c w) k no_letter) (first c w + k)
 
 -- the entry of a position, from the entry of the place of its word
 pub entry_at : (c : Chain) (places : List Place) (firsts : List ℕ) → AreTablesBelow c (length c) places firsts → (i : ℕ) → i < positions c →

@@ -1,10 +1,10 @@
 pub mod Spelling
 pub mod Faults
 pub mod Tables
-pub mod Inside
+pub mod Kept
 pub mod Balance
 pub mod ChainText
-pub mod Decision
 pub mod Pairs
 pub mod PairTable
 pub mod Polygons
+pub mod inside

@@ -3,7 +3,7 @@
 ghost use Rattle.std.specs.Prelude.{◌≡◌, ◌==◌, slice_index, None, Some, Ok, Err, MatchOption, MatchResult};
 ghost use Rattle.std.specs.List.{filter_map};
 ghost use Rattle.sc_chain.specs.ChainText as texts;
-ghost use Rattle.sc_chain.specs.Decision as decisions;
+ghost use Rattle.sc_chain.specs.inside.Decision as decisions;
 ghost use Rattle.sc_chain.specs.Spelling as spelling;
 
 use crate::coefficient::{begins_number, coefficient_of};

@@ -6,7 +6,8 @@ ghost use Rattle.sc_theory.specs.Walks.{IsStep};
 ghost use Rattle.sc_chain.specs.declared.limits.TheConstants.{MAX_POSITIONS};
 ghost use Rattle.sc_chain.specs.Balance.{IsFirstUnbalanced};
 ghost use Rattle.sc_chain.specs.Faults.{AreGoodBelow};
-ghost use Rattle.sc_chain.specs.Tables.{AppendsBelow, AreTables};
+ghost use Rattle.sc_chain.specs.inside.Tables.{AppendsBelow};
+ghost use Rattle.sc_chain.specs.Tables.{AreTables};
 
 use crate::fault::ChainFault;
 use crate::faults::{first_fault, weigh};
@@ -43,7 +44,7 @@ impl Model for Chain {
 
     ghost Value = { List (ℕ × List Letter) };
 
-    ghost use Rattle.sc_chain.specs.Inside.{IsInside};
+    ghost use Rattle.sc_chain.specs.Kept.{IsInside};
 
     ghost view = { λ c. c.words.items };
 

@@ -4,7 +4,7 @@ use Rattle.sc_theory.specs.Words.{IsReduced}
 use Rattle.sc_theory.specs.Chains.{Chain, IsChain, word}
 use Rattle.sc_theory.specs.Fatgraphs.{Sides, IsFatgraph}
 use Rattle.sc_theory.specs.Prices.{Prices, Tables, Vouch, Covers, IsTight}
-use Rattle.sc_theory.specs.Examples.{opposite_words, annulus, commutator, torus}
+use Rattle.sc_theory.specs.Examples.{opposite_words, annulus, commutator, torus, side}
 use Rattle.sc_theory.proofs.Decisions.{vouches}
 use Rattle.sc_theory.proofs.SmallChains.{opposite_words_chain, commutator_chain}
 use Rattle.sc_theory.proofs.Vouching.{covers}
@@ -15,7 +15,7 @@ use Rattle.sc_cone.specs.Directions.{down, right, up, first_end, last_end, IsIn,
 use Rattle.sc_cone.specs.Cones.{chain_of, quadrant_chain}
 use Rattle.sc_cone.specs.Values.{IsTightAt, list_num, list_den}
 use Rattle.sc_cone.specs.Fans.{Corner, no_corner, IsFan, IsGoodCorner, IsHalf}
-use Rattle.sc_cone.specs.Examples.{second_annulus, second_annulus_below, upper_list, lower_list, upper_tables, lower_tables, flat_fan, four_corners, other_commutator, other_torus, commutators_list, commutators_tables, commutators_fan}
+use Rattle.sc_cone.specs.Examples.{upper_list, lower_list, flat_fan, four_corners, other_commutator, commutators_list, commutators_fan}
 use Rattle.sc_cone.proofs.ConeWords.{is_chain}
 use Rattle.sc_cone.proofs.ConeChains.{covers_all}
 use Rattle.sc_cone.proofs.ValueLaws.{value_from_tight, value_moved}
@@ -23,6 +23,48 @@ use Rattle.sc_cone.proofs.SearchRows.{first_within, last_within, first_primitive
 use Rattle.sc_cone.proofs.Arcs.{arc_of_one, arc_pushed}
 use Rattle.sc_cone.proofs.Halves.{fan_of_halves}
 use Rattle.sc_cone.proofs.SameFans.{as_many}
+use Rattle.std.specs.Prelude.{Some, List, Option, None, negsuc, ◌++◌}
+
+-- the annulus between the words of the second chain, which come after those of the first
+abbrev pub second_annulus : Sides
+second_annulus = side 2 1 0 ∷ side 3 0 1 ∷ []
+
+abbrev pub second_annulus_below : Sides
+second_annulus_below = side 3 1 0 ∷ side 2 0 1 ∷ []
+
+abbrev pub upper_tables : Tables
+upper_tables =
+    (Some (pos 0) ∷ Some (pos 1) ∷ Some (pos 1) ∷ Some (pos 1) ∷ [])
+    ∷ (Some (pos 0) ∷ Some (pos 0) ∷ Some (pos 0) ∷ Some (pos 1) ∷ [])
+    ∷ (Some (pos 1) ∷ Some (pos 1) ∷ Some (pos 0) ∷ Some (pos 1) ∷ [])
+    ∷ (Some (pos 0) ∷ Some (pos 1) ∷ Some (pos 0) ∷ Some (pos 0) ∷ [])
+    ∷ []
+
+abbrev pub lower_tables : Tables
+lower_tables =
+    (Some (pos 0) ∷ Some (pos 1) ∷ Some (pos 1) ∷ Some (pos 1) ∷ [])
+    ∷ (Some (pos 0) ∷ Some (pos 0) ∷ Some (pos 1) ∷ Some (pos 0) ∷ [])
+    ∷ (Some (pos 0) ∷ Some (pos 1) ∷ Some (pos 0) ∷ Some (pos 0) ∷ [])
+    ∷ (Some (pos 1) ∷ Some (pos 1) ∷ Some (pos 1) ∷ Some (pos 0) ∷ [])
+    ∷ []
+
+-- the torus over the second word
+abbrev pub other_torus : Sides
+other_torus = side 4 2 1 ∷ side 5 3 2 ∷ side 6 0 3 ∷ side 7 1 0 ∷ []
+
+abbrev pub no_walk : List (Option ℤ)
+no_walk = None ∷ None ∷ None ∷ None ∷ []
+
+abbrev pub walks_from : ℕ → List (Option ℤ)
+walks_from zero = Some (pos 0) ∷ Some (negsuc 8) ∷ Some (negsuc 17) ∷ Some (negsuc 8) ∷ []
+walks_from (suc zero) = Some (pos 10) ∷ Some (pos 0) ∷ Some (negsuc 7) ∷ Some (pos 1) ∷ []
+walks_from (suc (suc zero)) = Some (pos 19) ∷ Some (pos 9) ∷ Some (pos 0) ∷ Some (pos 10) ∷ []
+walks_from (suc (suc (suc k))) = Some (pos 10) ∷ Some (pos 0) ∷ Some (negsuc 8) ∷ Some (pos 0) ∷ []
+
+abbrev pub commutators_tables : Tables
+commutators_tables =
+    (walks_from 0 ++ no_walk) ∷ (walks_from 1 ++ no_walk) ∷ (walks_from 2 ++ no_walk) ∷ (walks_from 3 ++ no_walk)
+    ∷ (no_walk ++ walks_from 0) ∷ (no_walk ++ walks_from 1) ∷ (no_walk ++ walks_from 2) ∷ (no_walk ++ walks_from 3) ∷ []
 
 no_edges : (k : ℕ) → suc k ≡ 0 → ⊥
 no_edges k e = omega arith
@@ -81,6 +123,7 @@ covers_by : (c : Chain) (list : Prices) (tables : Tables) → pos 0 <ℤ list.sc
 covers_by c list tables above vouch = covers c list tables above vouch
 
 -- ---- the words a and A twice
+
 flat_down : AtEnd opposite_words opposite_words Lower lower_list down (pos 0) (pos 1)
 flat_down = record { sides = second_annulus_below; fatgraph = search rules; tight = refl; same = refl }
 
@@ -106,6 +149,7 @@ four_corners_refused is =
     omega arith
 
 -- ---- two commutators
+
 other_words : (w : ℕ) → w < 1 → word other_commutator w ≢ []
 other_words zero inside = λ e. cc
 other_words (suc w) inside = absurd (omega arith)

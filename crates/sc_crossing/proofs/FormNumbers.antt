@@ -19,7 +19,7 @@ use Rattle.sc_cone.proofs.NextDirections.{tight_by_value}
 use Rattle.sc_chain.specs.declared.limits.TheConstants.{MAX_LENGTH}
 use Rattle.sc_certificate.specs.Bounds.{bound_from, IsWithinPrices}
 use Rattle.sc_certificate.proofs.BoundSums.{sum_size, fits, bound_from_first}
-use Rattle.sc_crossing.specs.Sizes.{form_from}
+use Rattle.sc_crossing.specs.inside.Sizes.{form_from}
 use Rattle.sc_crossing.proofs.Sizes.{difference_size, scaled_size, times_size}
 
 pub scale_size : (z : ℤ) → IsScaleInRange z → IsWithinPrices 1 z

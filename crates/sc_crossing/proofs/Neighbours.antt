@@ -18,7 +18,8 @@ use Rattle.sc_cone.proofs.Crossings.{crossing, gaps_have_one_sign}
 use Rattle.sc_crossing.specs.declared.form.Form.{Form}
 use Rattle.sc_crossing.specs.declared.fault.NextFault.{NextFault}
 use Rattle.sc_crossing.specs.declared.fault.NextFault.TheVariants.{Cross, Length}
-use Rattle.sc_crossing.specs.Forms.{IsFormOf, IsCrossing, IsCrossFault, IsNextFault}
+use Rattle.sc_crossing.specs.Forms.{IsFormOf, IsNextFault}
+use Rattle.sc_crossing.specs.inside.Forms.{IsCrossing, IsCrossFault}
 use Rattle.sc_crossing.proofs.PrimitiveSums.{sum_within}
 use Rattle.sc_crossing.proofs.Balances.{difference_by_lists, ratio_balances, gap_in_fours, four_across, balance_is_above, not_zero_by}
 

@@ -3,7 +3,7 @@ use Rattle.std.specs.Prelude.{◌≡◌}
 use Rattle.sc_whole.specs.declared.checked.Op.TheVariants.{Sub}
 use Rattle.sc_whole.specs.Operation.{AllFit}
 use Rattle.sc_fraction.specs.declared.frac.Frac.{Frac}
-use Rattle.sc_fraction.specs.Frac.{IsQuotient, IsDifference, IsRatio, ForSum, ForRatio}
+use Rattle.sc_fraction.specs.Frac.{IsQuotient, IsDifference, ForSum, ForRatio}
 use Rattle.sc_theory.specs.Chains.{Chain}
 use Rattle.sc_theory.specs.Prices.{Prices}
 use Rattle.sc_cone.specs.declared.Direction.{Direction}
@@ -28,21 +28,12 @@ HasDifference x y = ForSum Sub x y AllFit
 abbrev pub HasRatio : Frac → Frac → Type 0
 HasRatio x y = ForRatio x y AllFit
 
--- c is where two forms cross: what the second gives more for the second chain, over what the first gives more for the first
-abbrev pub IsCrossing : Form → Form → Frac → Type 0
-IsCrossing f g c = (more_second more_first : Frac) × IsDifference g.second f.second more_second × IsDifference f.first g.first more_first × IsRatio more_second more_first c
-
 -- the first operation of a crossing that isn't made within 128 bits, with its two fractions
 abbrev pub IsRefusedAt : Form → Form → CrossPlace → Frac → Frac → Type 0
 IsRefusedAt f g First x y = (x ≡ f.first) × (y ≡ g.first) × ¬ HasDifference x y
 IsRefusedAt f g Second x y = HasDifference f.first g.first × (x ≡ g.second) × (y ≡ f.second) × ¬ HasDifference x y
 IsRefusedAt f g Over x y =
     HasDifference f.first g.first × HasDifference g.second f.second × IsDifference g.second f.second x × IsDifference f.first g.first y × ¬ HasRatio x y
-
--- a fault that tells this
-abbrev pub IsCrossFault : Form → Form → NextFault → Type 0
-IsCrossFault f g (Cross place x y) = IsRefusedAt f g place x y
-IsCrossFault f g (Length s t) = ⊥
 
 -- the crossing of the forms of two lists is refused at this operation, with these fractions
 abbrev pub IsCrossRefused : Chain → Chain → Prices → Prices → CrossPlace → Frac → Frac → Type 0

@@ -1,4 +1,4 @@
 pub mod Lengths
-pub mod Sizes
 pub mod Neighbours
 pub mod Forms
+pub mod inside

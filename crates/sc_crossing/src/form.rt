@@ -3,7 +3,7 @@
 ghost use Rattle.std.specs.Prelude.{◌≤◌, pos, ◌<ℤ◌};
 ghost use Rattle.sc_fraction.specs.Frac.{IsQuotient};
 ghost use Rattle.sc_chain.specs.declared.limits.TheConstants.{MAX_WORDS};
-ghost use Rattle.sc_crossing.specs.Sizes.{form_from};
+ghost use Rattle.sc_crossing.specs.inside.Sizes.{form_from};
 ghost use Rattle.sc_crossing.specs.Forms.{IsFormOf};
 
 use crate::numbers::form_number;

@@ -10,7 +10,8 @@ ghost use Rattle.sc_cone.specs.Searches.{IsGap, IsInside, IsNext};
 ghost use Rattle.sc_crossing.specs.declared.fault.NextFault.TheVariants as next_faults;
 ghost use Rattle.sc_crossing.specs.Lengths.{IsLight};
 ghost use Rattle.sc_crossing.specs.Neighbours.{reached_of, direction_of};
-ghost use Rattle.sc_crossing.specs.Forms.{HasDifference, HasRatio, IsCrossing, IsCrossFault, IsNextFault};
+ghost use Rattle.sc_crossing.specs.Forms.{HasDifference, HasRatio, IsNextFault};
+ghost use Rattle.sc_crossing.specs.inside.Forms.{IsCrossing, IsCrossFault};
 
 use crate::chains::check_chain;
 use crate::fault::{CrossPlace, NextFault};

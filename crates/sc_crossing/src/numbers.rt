@@ -4,7 +4,7 @@ ghost use Rattle.std.specs.Prelude.{◌≡◌, ◌*◌, ◌≤◌};
 ghost use Rattle.sc_theory.specs.Chains.{weighted_length};
 ghost use Rattle.sc_chain.specs.declared.limits.TheConstants.{MAX_WORDS};
 ghost use Rattle.sc_certificate.specs.Bounds.{IsWithinPrices};
-ghost use Rattle.sc_crossing.specs.Sizes.{form_from};
+ghost use Rattle.sc_crossing.specs.inside.Sizes.{form_from};
 
 use sc_certificate::{PriceList, bound_from};
 use sc_chain::Chain;

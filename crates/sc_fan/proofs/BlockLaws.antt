@@ -1,12 +1,17 @@
 -- Laws of a number with the lines that it counts, and of blocks of lines.
 use Rattle.std.proofs.Common.{◌≡◌, ℕ, zero, suc, ◌+◌, ◌*◌, ◌≤◌, true, List, [], ◌∷◌, ◌++◌, length, refl, sym, ap, subst, ◌∙◌, append_assoc, append-nil, arith}
 use Rattle.sc_line.specs.Lines.{Line, count_line, count_in, lacks, AllLack}
-use Rattle.sc_line.specs.Formats.{Format, told, Reads, IsShort, IsCountInRange}
+use Rattle.sc_line.specs.Formats.{Format, told, Reads, IsShort}
+use Rattle.sc_line.proofs.NumberLaws.{IsCountInRange, count_is_kind}
 use Rattle.sc_line.specs.Forms.{IsLawful}
-use Rattle.sc_line.proofs.NumberLaws.{count_is_kind}
 use Rattle.sc_line.proofs.FormatLaws.{line_told, nothing_more, short_more}
 use Rattle.sc_line.proofs.FormLaws.{lacks_both, reads_then, split_then, short_then, AllAfter}
-use Rattle.sc_fan.specs.Blocks.{headed_due, blocks_due, blocks_lines}
+use Rattle.sc_fan.specs.Blocks.{headed_due, blocks_due}
+
+-- the lines of blocks behind others
+abbrev pub blocks_lines : {A : Type 0} → (List A → A → List Line) → List A → List A → List Line
+blocks_lines lines before [] = []
+blocks_lines lines before (x ∷ xs) = lines before x ++ blocks_lines lines (before ++ x ∷ []) xs
 
 -- ---- a number, and what it counts
 

@@ -33,10 +33,10 @@ use Rattle.sc_cone.specs.Cones.{inverses, quadrant_chain}
 use Rattle.sc_cone.specs.Fans.{Corner as PlaneCorner}
 use Rattle.sc_fan.specs.declared.limits.TheConstants.{MIN_CORNERS, MAX_CORNERS}
 use Rattle.sc_fan.specs.Corners.{corner_line, a_corner, IsCornerInRange}
-use Rattle.sc_fan.specs.Blocks.{blocks_due, blocks_lines}
+use Rattle.sc_fan.specs.Blocks.{blocks_due}
+use Rattle.sc_fan.proofs.BlockLaws.{blocks_lines, IsHeaded, lawful_headed, AreBlocks, lawful_blocks}
 use Rattle.sc_fan.specs.Fans.{FanSaid, edge_chain, heading, chain_lines, corners_lines, edge_line, edge_lines, edges_lines, fan_lines, chain_due, second_due, corners_due, ListTold, list_told, told_list, list_due, edge_due, edges_due, fan_of, fan_due, IsListFor, IsFanInRange}
 use Rattle.sc_fan.proofs.CornerLaws.{corner_kind, lacks-corner_line}
-use Rattle.sc_fan.proofs.BlockLaws.{IsHeaded, lawful_headed, AreBlocks, lawful_blocks}
 
 -- ---- lawful formats once more
 

@@ -19,7 +19,8 @@ use Rattle.sc_fan.specs.declared.printing.Part.{Part}
 use Rattle.sc_fan.specs.declared.printing.TheConstants.{PARTS}
 use Rattle.sc_fan.specs.Corners.{corner_said, corner_line}
 use Rattle.sc_fan.specs.Fans.{FanSaid, quadrant_at, heading, chain_lines, corners_lines, edge_line, edge_lines, edges_lines, fan_text}
-use Rattle.sc_fan.specs.Printing.{Pairs, pairs_in, edge_text, edge_pairs, edge_piece, counted_edges_text, part_text}
+use Rattle.sc_fan.specs.Printing.{Pairs, part_text}
+use Rattle.sc_fan.specs.inside.Printing.{pairs_in, edge_text, edge_pairs, edge_piece, counted_edges_text}
 
 -- ---- two pieces of a text
 

@@ -25,7 +25,8 @@ use Rattle.sc_fan.specs.declared.fan.Fan.{Fan}
 use Rattle.sc_fan.specs.Corners.{corner_said}
 use Rattle.sc_fan.specs.Fans.{FanSaid, quadrant_at, edge_chain, IsListFor, IsFanInRange}
 use Rattle.sc_fan.specs.FanRead.{fan_said}
-use Rattle.sc_fan.specs.Printing.{Pairs, pairs_in, edge_text, edge_pairs, edge_piece, edges_text, AreEdgesOf}
+use Rattle.sc_fan.specs.Printing.{Pairs}
+use Rattle.sc_fan.specs.inside.Printing.{pairs_in, edge_text, edge_pairs, edge_piece, edges_text, AreEdgesOf}
 use Rattle.sc_fan.proofs.FanLaws.{length-quadrant, positions-quadrant}
 use Rattle.sc_fan.proofs.Pieces.{pairs_of_quadrant}
 

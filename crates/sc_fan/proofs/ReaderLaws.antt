@@ -20,8 +20,8 @@ use Rattle.sc_line.specs.declared.fault.Kind.TheVariants.{Form}
 use Rattle.sc_line.specs.declared.fault.LineFault.TheVariants as line_faults
 use Rattle.sc_line.specs.Lines.{Line, lacks, numbers_line, count_line}
 use Rattle.sc_line.specs.Faults.{between, literal_fault, numbers_line_fault}
-use Rattle.sc_line.proofs.NumberLaws.{count_is_kind}
-use Rattle.sc_line.specs.Formats.{Format, told, IsCountInRange}
+use Rattle.sc_line.proofs.NumberLaws.{count_is_kind, IsCountInRange}
+use Rattle.sc_line.specs.Formats.{Format, told}
 use Rattle.sc_line.specs.Forms.{LineKind, one_due, many_due, count_kind, literal_due, and_then, both_due, and_also}
 use Rattle.sc_line.proofs.FormLaws.{lawful_all, lawful_one, AreAll}
 use Rattle.sc_line.proofs.PartLaws.{all_is}
@@ -39,8 +39,9 @@ use Rattle.sc_fan.specs.Corners.{corner_said, a_corner}
 use Rattle.sc_fan.specs.Blocks.{headed_due, blocks_due}
 use Rattle.sc_fan.specs.Fans.{FanSaid, heading, fan_of, fan_due, chain_lines, corners_lines, chain_due, second_due, corners_due, edges_due, edge_due, edge_line, quadrant_at, list_told, prices_due}
 use Rattle.sc_fan.specs.FanRead.{edge_said, AreJoinedTo}
-use Rattle.sc_fan.specs.EdgesRead.{numbered_due, edge_behind, edges_by}
-use Rattle.sc_fan.specs.Printing.{Pairs, edge_pairs}
+use Rattle.sc_fan.specs.inside.EdgesRead.{numbered_due, edge_behind, edges_by}
+use Rattle.sc_fan.specs.Printing.{Pairs}
+use Rattle.sc_fan.specs.inside.Printing.{edge_pairs}
 use Rattle.sc_fan.specs.Reading.{LinesLeft, IsNext, Answer, taken, Fails}
 use Rattle.sc_fan.proofs.FanLaws.{AreCorners, length-quadrant, lawful_chain, lawful_scale, lawful_corners, both_flat}
 use Rattle.sc_fan.proofs.Pieces.{pairs_of_quadrant}

@@ -1,6 +1,6 @@
 -- Formats of a number with the lines that it counts, and of blocks of lines one after another.
 use Rattle.std.specs.Prelude.{ℕ, zero, suc, List, [], ◌∷◌, ◌++◌}
-use Rattle.sc_line.specs.Lines.{Line, count_in}
+use Rattle.sc_line.specs.Lines.{count_in}
 use Rattle.sc_line.specs.Faults.{between, numbers_line_fault}
 use Rattle.sc_line.specs.Formats.{Format, told, a_line}
 use Rattle.sc_line.specs.Forms.{and_then}
@@ -13,8 +13,3 @@ headed_due name low high rest = a_line (numbers_line_fault name (between low hig
 abbrev pub blocks_due : {A : Type 0} → (List A → Format A) → ℕ → List A → Format (List A)
 blocks_due block zero before = told before
 blocks_due block (suc n) before = and_then (block before) (λ x. blocks_due block n (before ++ x ∷ []))
-
--- the lines of blocks behind others
-abbrev pub blocks_lines : {A : Type 0} → (List A → A → List Line) → List A → List A → List Line
-blocks_lines lines before [] = []
-blocks_lines lines before (x ∷ xs) = lines before x ++ blocks_lines lines (before ++ x ∷ []) xs

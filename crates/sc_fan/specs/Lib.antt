@@ -4,5 +4,5 @@ pub mod Fans
 pub mod FanRead
 pub mod Printing
 pub mod Reading
-pub mod EdgesRead
 pub mod FanReader
+pub mod inside

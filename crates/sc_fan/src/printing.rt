@@ -7,7 +7,7 @@ ghost use Rattle.sc_line.specs.Printing.{AppendsPart};
 ghost use Rattle.sc_text.specs.Words as words;
 ghost use Rattle.sc_fan.specs.Corners.{corner_said, corner_line};
 ghost use Rattle.sc_fan.specs.Fans.{chain_lines, corners_lines, edges_lines, fan_text, IsFanInRange};
-ghost use Rattle.sc_fan.specs.Printing.{edge_text, edges_text, counted_edges_text, AreEdgesOf};
+ghost use Rattle.sc_fan.specs.inside.Printing.{edge_text, edges_text, counted_edges_text, AreEdgesOf};
 
 use crate::corner::Corner;
 use crate::corners::print_corner_line;

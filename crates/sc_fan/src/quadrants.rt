@@ -5,7 +5,7 @@ ghost use Rattle.sc_theory.specs.Prices.{pairs as pairs_of};
 ghost use Rattle.sc_text.specs.Surfaces.{IsChainInRange};
 ghost use Rattle.sc_cone.specs.Cones.{inverses, second_words, quadrant_chain};
 ghost use Rattle.sc_cone.specs.Fans.{quadrant_from};
-ghost use Rattle.sc_fan.specs.Printing.{pairs_in};
+ghost use Rattle.sc_fan.specs.inside.Printing.{pairs_in};
 
 use crate::corner::Corner;
 use sc_chain::{Chain, ChainFault, Pairs, Word};

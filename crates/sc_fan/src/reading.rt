@@ -10,11 +10,11 @@ ghost use Rattle.sc_line.specs.Faults.{IsFaultless, IsFaultOf, IsFirstFault};
 ghost use Rattle.sc_line.specs.Forms.{many_due};
 ghost use Rattle.sc_text.specs.Surfaces.{IsChainInRange};
 ghost use Rattle.sc_fan.specs.Corners.{corner_said, a_corner};
-ghost use Rattle.sc_fan.specs.EdgesRead.{numbered_due, edges_by};
+ghost use Rattle.sc_fan.specs.inside.EdgesRead.{numbered_due, edges_by};
 ghost use Rattle.sc_fan.specs.FanRead.{fan_said, edge_said, plane_fan, AreJoinedTo, IsJoined};
 ghost use Rattle.sc_fan.specs.FanReader.{IsFanRead};
 ghost use Rattle.sc_fan.specs.Fans.{FanSaid, corners_due, edges_due, fan_due, fan_plan, fan_text, IsFanInRange};
-ghost use Rattle.sc_fan.specs.Printing.{edge_pairs};
+ghost use Rattle.sc_fan.specs.inside.Printing.{edge_pairs};
 ghost use Rattle.sc_fan.specs.Reading.{taken, Gives};
 
 use crate::chains::read_chain;

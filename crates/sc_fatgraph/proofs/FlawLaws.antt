@@ -7,7 +7,8 @@ use Rattle.sc_theory.specs.Fatgraphs.{Sides, IsFatgraph, label, mate, next, side
 use Rattle.sc_theory.specs.declared.Letter.{Letter as AnyLetter}
 use Rattle.sc_fatgraph.specs.declared.flaws.FlawKind.{FlawKind}
 use Rattle.sc_fatgraph.specs.declared.flaws.FlawKind.TheVariants.{Range, Mate, Letter, Next, Label, Count}
-use Rattle.sc_fatgraph.specs.Flaws.{HasFlaw, HasRangeFlaw, HasMateFlaw, HasLetterFlaw, HasNextFlaw, rank, IsFirstFlaw, IsLeastPlace, AreInRange}
+use Rattle.sc_fatgraph.specs.Flaws.{HasFlaw, HasRangeFlaw, HasMateFlaw, HasLetterFlaw, HasNextFlaw, rank, IsFirstFlaw}
+use Rattle.sc_fatgraph.specs.inside.Flaws.{IsLeastPlace, AreInRange}
 
 -- the kind of a rank
 kind_of : ℕ → FlawKind

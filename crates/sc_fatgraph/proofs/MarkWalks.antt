@@ -4,7 +4,7 @@ use Rattle.std.proofs.Math.ListN.{set, length-set}
 use Rattle.std.proofs.lemmas.Bool.{cases_eq}
 use Rattle.sc_algebra.proofs.Cycles.{iterate-last}
 use Rattle.sc_theory.specs.Fatgraphs.{Sides, next, turn}
-use Rattle.sc_fatgraph.specs.Orbits.{IsRibbon, IsInOrbit, IsMarked}
+use Rattle.sc_fatgraph.specs.inside.Orbits.{IsRibbon, IsInOrbit, IsMarked}
 
 -- the next side round the vertex is a side
 pub turn_in_range : (g : Sides) → IsRibbon g → (s : ℕ) → s < length g → turn g s < length g

@@ -6,7 +6,7 @@ use Rattle.sc_algebra.specs.Sums.{count_below}
 use Rattle.sc_algebra.specs.Permutations.{IsPermutation, is_least_for}
 use Rattle.sc_algebra.proofs.Cycles.{iterate-add, period, least_means_least}
 use Rattle.sc_theory.specs.Fatgraphs.{Sides, mate, next, turn}
-use Rattle.sc_fatgraph.specs.Orbits.{IsRibbon, IsInOrbit, IsMarked, IsClosed}
+use Rattle.sc_fatgraph.specs.inside.Orbits.{IsRibbon, IsInOrbit, IsMarked, IsClosed}
 use Rattle.sc_fatgraph.proofs.MarkWalks.{turn_in_range}
 
 -- turn moves the sides among themselves

@@ -1,5 +1,5 @@
-pub mod Orbits
 pub mod Flaws
 pub mod Faults
 pub mod Surfaces
 pub mod Texts
+pub mod inside

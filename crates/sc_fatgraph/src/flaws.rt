@@ -4,7 +4,8 @@ ghost use Rattle.std.specs.Prelude.{◌≡◌, ℕ, ◌^◌, ◌<◌, false, len
 ghost use Rattle.sc_theory.specs.Fatgraphs.{IsFatgraph, mate, next};
 ghost use Rattle.sc_fatgraph.specs.declared.flaws.SurfaceFault.TheVariants.{Memory};
 ghost use Rattle.sc_theory.specs.Chains.{positions};
-ghost use Rattle.sc_fatgraph.specs.Flaws.{HasRangeFlaw, HasMateFlaw, HasLetterFlaw, HasNextFlaw, HasLabelFlaw, HasCountFlaw, IsLeastPlace, IsFirstFlaw, AreInRange, AreLabelCounts};
+ghost use Rattle.sc_fatgraph.specs.Flaws.{HasRangeFlaw, HasMateFlaw, HasLetterFlaw, HasNextFlaw, HasLabelFlaw, HasCountFlaw, IsFirstFlaw};
+ghost use Rattle.sc_fatgraph.specs.inside.Flaws.{IsLeastPlace, AreInRange, AreLabelCounts};
 
 use crate::Side;
 use sc_chain::{Chain, is_inverse};

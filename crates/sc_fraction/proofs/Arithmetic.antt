@@ -1,5 +1,5 @@
 -- Sums, products and ratios of quotients, by cross products.
-use Rattle.std.proofs.Common.{◌≡◌, ℕ, zero, suc, ◌*◌, ◌<◌, List, [], ◌∷◌, ◌++◌, ℤ, pos, negsuc, ◌+ℤ◌, ◌-ℤ◌, ◌*ℤ◌, neg_ℤ, ◌<ℤ◌, unsigned_abs, int_div, inr, refl, sym, ap, ap₂, ◌∙◌, subst, subst₂, arith, mul-one, mul_comm}
+use Rattle.std.proofs.Common.{◌≡◌, ℕ, zero, suc, ◌*◌, ◌<◌, List, [], ◌∷◌, ◌++◌, ℤ, pos, negsuc, ◌+ℤ◌, ◌-ℤ◌, ◌*ℤ◌, neg_ℤ, ◌<ℤ◌, unsigned_abs, int_div, inr, refl, sym, ap, ap₂, ◌∙◌, subst, subst₂, arith, mul-one, mul_comm, ◌+◌}
 use Rattle.std.specs.Int.{◌∣◌, IsGcd}
 use Rattle.std.proofs.lemmas.Int.{ints, unsigned_abs-mul}
 use Rattle.std.proofs.lemmas.Nat.Gcd.{dvd_trans, same_from_IsGcd, IsGcd-swap}
@@ -8,9 +8,28 @@ use lib.IntN.{*ℤ_comm, *ℤ-zero}
 use Rattle.sc_whole.specs.declared.checked.Wide.{Wide}
 use Rattle.sc_whole.specs.Operation.{AllFit, IsFirstWide}
 use Rattle.sc_whole.proofs.DivisorLaws.{dvd_of_dvd-mul}
-use Rattle.sc_fraction.specs.Ints.{mul-add_z, mul-sub_z, mul-neg_z, mul_assoc_z, mul_cancel_z}
+use Rattle.sc_fraction.specs.Ints.{mul_assoc_z, mul_cancel_z}
 use Rattle.sc_fraction.specs.Quotient.{SameQuotient}
 use Rattle.sc_fraction.specs.Steps.{turn}
+use borrow.Author.Differences.{up, down, sum_is_lem, neg_is}
+
+-- products over sums, by the two parts of each number
+pub mul-add_z : (a b c : ℤ) → a *ℤ (b +ℤ c) ≡ (a *ℤ b) +ℤ (a *ℤ c)
+mul-add_z a b c = omega (arith, ints, ap (λ (t : ℕ). up a * t) (sum_is_lem b c), ap (λ (t : ℕ). down a * t) (sum_is_lem b c))
+
+pub mul-neg_z : (a b : ℤ) → a *ℤ neg_ℤ b ≡ neg_ℤ (a *ℤ b)
+mul-neg_z a b =
+    omega (
+      arith,
+      ints,
+      ap (λ (t : ℕ). up a * t) (neg_is b).0,
+      ap (λ (t : ℕ). down a * t) (neg_is b).0,
+      ap (λ (t : ℕ). up a * t) (neg_is b).1,
+      ap (λ (t : ℕ). down a * t) (neg_is b).1,
+    )
+
+pub mul-sub_z : (a b c : ℤ) → a *ℤ (b -ℤ c) ≡ (a *ℤ b) -ℤ (a *ℤ c)
+mul-sub_z a b c = mul-add_z a b (neg_ℤ c) ∙ ap (λ (t : ℤ). (a *ℤ b) +ℤ t) (mul-neg_z a c)
 
 -- a fact on quotients by a greatest common divisor holds at each name of that divisor
 pub at_gcd : (P : ℤ → ℤ → Type 0) (b e s t : ℤ) (d g : ℕ) → IsGcd (unsigned_abs b) (unsigned_abs e) d → IsGcd (unsigned_abs b) (unsigned_abs e) g

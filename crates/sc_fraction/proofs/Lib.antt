@@ -1,2 +1,3 @@
 pub mod Arithmetic
 pub mod Comparing
+pub mod SameValues

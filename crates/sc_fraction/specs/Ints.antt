@@ -1,28 +1,10 @@
 -- Laws of sums and products of whole numbers.
-use Rattle.std.proofs.Common.{◌≡◌, ℕ, suc, ◌+◌, ◌*◌, ℤ, pos, negsuc, ◌+ℤ◌, ◌-ℤ◌, ◌*ℤ◌, neg_ℤ, ◌<ℤ◌, refl, sym, ap, ◌∙◌, arith, Ordering, Less, Equal, Greater, unsigned_abs, mul-le-mul_left, ◌≤◌}
+use Rattle.std.proofs.Common.{◌≡◌, ℕ, suc, ◌+◌, ◌*◌, ℤ, pos, negsuc, ◌*ℤ◌, ◌<ℤ◌, refl, sym, ap, ◌∙◌, arith, Ordering, Less, Equal, Greater, unsigned_abs, mul-le-mul_left, ◌≤◌}
 use Rattle.std.specs.Ordering.{int_cmp, MatchOrdering}
 use Rattle.std.proofs.lemmas.Cmp.{int_ranked}
 use lib.IntN.{*ℤ_comm}
 use Rattle.std.proofs.lemmas.Int.{ints}
-use borrow.Author.Differences.{up, down, sum_is_lem, product_is, neg_is}
-
--- products over sums, by the two parts of each number
-pub mul-add_z : (a b c : ℤ) → a *ℤ (b +ℤ c) ≡ (a *ℤ b) +ℤ (a *ℤ c)
-mul-add_z a b c = omega (arith, ints, ap (λ (t : ℕ). up a * t) (sum_is_lem b c), ap (λ (t : ℕ). down a * t) (sum_is_lem b c))
-
-pub mul-neg_z : (a b : ℤ) → a *ℤ neg_ℤ b ≡ neg_ℤ (a *ℤ b)
-mul-neg_z a b =
-    omega (
-      arith,
-      ints,
-      ap (λ (t : ℕ). up a * t) (neg_is b).0,
-      ap (λ (t : ℕ). down a * t) (neg_is b).0,
-      ap (λ (t : ℕ). up a * t) (neg_is b).1,
-      ap (λ (t : ℕ). down a * t) (neg_is b).1,
-    )
-
-pub mul-sub_z : (a b c : ℤ) → a *ℤ (b -ℤ c) ≡ (a *ℤ b) -ℤ (a *ℤ c)
-mul-sub_z a b c = mul-add_z a b (neg_ℤ c) ∙ ap (λ (t : ℤ). (a *ℤ b) +ℤ t) (mul-neg_z a c)
+use borrow.Author.Differences.{up, down, product_is}
 
 pub mul_assoc_z : (a b c : ℤ) → (a *ℤ b) *ℤ c ≡ a *ℤ (b *ℤ c)
 mul_assoc_z a b c =

@@ -8,10 +8,7 @@ use Rattle.std.proofs.lemmas.Nat.Gcd.{dvd_antisymm, IsGcd-swap}
 use Rattle.std.proofs.lemmas.Int.{ints, unsigned_abs-mul}
 use Rattle.std.proofs.lemmas.Cmp.{int_cmp_total}
 use Rattle.std.proofs.Math.Nat.{dvd-mul_left}
-use Rattle.std.proofs.Props.{props}
 use lib.IntN.{*ℤ_comm}
-use mathlib.Core.HLevel.{is_prop→PathP}
-use mathlib.Core.Path.{PathP}
 use Rattle.sc_whole.proofs.DivisorLaws.{dvd_of_dvd-mul}
 use Rattle.sc_fraction.specs.Quotient.{SameQuotient}
 use Rattle.sc_fraction.specs.Frac.{numerator, denominator, frac_cmp}
@@ -26,27 +23,16 @@ divides_across a b c e coprime same = dvd_of_dvd-mul b a e (IsGcd-swap a b 1 cop
 sizes : (a b c e : ℤ) → SameQuotient a b c e → unsigned_abs a * unsigned_abs e ≡ unsigned_abs c * unsigned_abs b
 sizes a b c e same = sym (unsigned_abs-mul a e) ∙ ap unsigned_abs same ∙ unsigned_abs-mul c b
 
-same_denominator : (x y : Frac) → SameQuotient (numerator x) (denominator x) (numerator y) (denominator y) → denominator x ≡ denominator y
+pub same_denominator : (x y : Frac) → SameQuotient (numerator x) (denominator x) (numerator y) (denominator y) → denominator x ≡ denominator y
 same_denominator x y same =
     let across = sizes x.num x.den y.num y.den same in
     same_from_size x.den y.den x.positive y.positive
     (dvd_antisymm (divides_across _ _ (unsigned_abs y.num) _ x.reduced across) (divides_across _ _ (unsigned_abs x.num) _ y.reduced (sym across)))
 
-same_numerator : (x y : Frac) → SameQuotient (numerator x) (denominator x) (numerator y) (denominator y) → numerator x ≡ numerator y
+pub same_numerator : (x y : Frac) → SameQuotient (numerator x) (denominator x) (numerator y) (denominator y) → numerator x ≡ numerator y
 same_numerator x y same =
     mul_cancel_z y.den x.num y.num y.positive
     (*ℤ_comm y.den x.num ∙ same ∙ ap (λ (t : ℤ). y.num *ℤ t) (same_denominator x y same) ∙ *ℤ_comm y.num y.den)
-
-pub same_frac : (x y : Frac) → SameQuotient (numerator x) (denominator x) (numerator y) (denominator y) → x ≡ y
-same_frac x y same = let p = same_numerator x y same in
-    let q = same_denominator x y same in
-    let positive : PathP (λ i. pos 0 <ℤ q i) x.positive y.positive = is_prop→PathP (λ i. pos 0 <ℤ q i) (λ i. hlevel props) x.positive y.positive in
-    λ i. record {
-      num = p i;
-      den = q i;
-      positive = positive i;
-      reduced = is_prop→PathP (λ j. IsGcd (unsigned_abs (p j)) (unsigned_abs (q j)) 1) (λ j. hlevel props) x.reduced y.reduced i;
-    }
 
 -- the order
 

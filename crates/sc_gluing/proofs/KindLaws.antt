@@ -15,7 +15,8 @@ use Rattle.sc_theory.proofs.ChainLaws.{neighbours}
 use Rattle.sc_gluing.specs.Cycles.{at, after, goes, rank}
 use Rattle.sc_gluing.specs.Gluing.{AreMatched, IsGlued}
 use Rattle.sc_gluing.specs.Matching.{so_far, ArePartners, AreMatchable}
-use Rattle.sc_gluing.specs.Sides.{AreGlueable, AreInside, end_at, kind, AreKinds, AreOpposites, AreMatchedSides, AreMates, AreSides}
+use Rattle.sc_gluing.specs.Sides.{AreGlueable, kind}
+use Rattle.sc_gluing.specs.inside.Sides.{AreInside, end_at, AreKinds, AreOpposites, AreMatchedSides, AreMates, AreSides}
 use Rattle.sc_gluing.proofs.CycleLaws.{size, after_inside, after_apart, begins_step}
 use Rattle.sc_gluing.proofs.GluedLaws.{rank_is, rank_below_opposite, one_partner}
 

@@ -3,8 +3,16 @@ use Rattle.std.proofs.Common.{◌≡◌, ℕ, ◌+◌, ◌<◌, List, [], ◌∷
 use Rattle.std.proofs.lemmas.List.{append-nil, take_all}
 use Rattle.std.proofs.lemmas.Grind.{flat_map-append}
 use Rattle.sc_gluing.specs.Cycles.{labels_of, round, after}
-use Rattle.sc_gluing.specs.Laying.{LaysBehind, IsLaidSoFar}
+use Rattle.sc_gluing.specs.Laying.{LaysBehind}
 use Rattle.sc_gluing.proofs.CycleLaws.{size, size-cons, after_here, after_later, here_or_later}
+use Rattle.std.specs.Prelude.{take}
+
+-- the first n places of a cycle lie behind the cycles that lay there
+pub record IsLaidSoFar (walk labels afters : List ℕ) (n : ℕ) (labels' afters' : List ℕ) : Type 0 where
+  pub labels_are : labels' ≡ labels ++ take n walk
+  pub as_many : length afters' ≡ length afters + n
+  pub kept : (s : ℕ) → s < length afters → get_or afters' s 0 ≡ get_or afters s 0
+  pub new : (k : ℕ) → k < n → get_or afters' (length afters + k) 0 ≡ length labels + round (length walk) k
 
 -- the side after a side in the first of two lists of cycles, and in the second one
 pub after-append_left : (vs ws : List (List ℕ)) (s : ℕ) → s < size vs → after (vs ++ ws) s ≡ after vs s
@@ -33,6 +41,7 @@ labels_of-last : (vs : List (List ℕ)) (w : List ℕ) → labels_of (vs ++ w �
 labels_of-last vs w = flat_map-append (λ (v : List ℕ). v) vs (w ∷ []) ∙ ap (λ (xs : List ℕ). labels_of vs ++ xs) (append-nil w)
 
 -- ---- one cycle
+
 -- a cycle all of whose places lie behind the others is laid
 pub whole_laid : (walk labels afters labels' afters' : List ℕ) → IsLaidSoFar walk labels afters (length walk) labels' afters' → LaysBehind 1 walk labels afters labels' afters'
 whole_laid walk labels afters labels' afters' is cycles laid =

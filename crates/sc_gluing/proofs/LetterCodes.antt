@@ -14,7 +14,8 @@ use Rattle.sc_theory.proofs.WordLaws.{same_letters}
 use Rattle.sc_chain.specs.Faults.{IsSmallChain}
 use Rattle.sc_gluing.specs.Cycles.{labels_of, at}
 use Rattle.sc_gluing.specs.Laying.{AreLaid}
-use Rattle.sc_gluing.specs.Letters.{code, AreCodes, AreInverseCodes, AreLetterMates, AreSeedMates, AreListed}
+use Rattle.sc_gluing.specs.Letters.{code}
+use Rattle.sc_gluing.specs.inside.Letters.{AreCodes, AreInverseCodes, AreLetterMates, AreSeedMates, AreListed}
 use Rattle.sc_gluing.specs.Matching.{so_far, ArePartners, AreMatchable}
 use Rattle.sc_gluing.specs.Seeds.{word_cycles, same_letter, letter_rank, IsSeed}
 use Rattle.sc_gluing.proofs.CycleLaws.{size}

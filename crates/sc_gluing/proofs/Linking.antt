@@ -4,8 +4,24 @@ use Rattle.std.proofs.Math.ListN.{length-set}
 use Rattle.std.proofs.Math.Seq.{get_or-append_seam}
 use Rattle.std.proofs.lemmas.List.{get_or_append_left}
 use Rattle.std.proofs.lemmas.Bool.{cases_eq, cases_lt, eq-eqb, ne_eqb}
-use Rattle.sc_gluing.specs.Matching.{so_far, AreMatchable, IsNext, AreLinked, IsCursor, ArePaired}
+use Rattle.sc_gluing.specs.Matching.{so_far, AreMatchable, IsNext}
+use Rattle.sc_gluing.specs.inside.Matching.{AreLinked}
 use Rattle.sc_gluing.proofs.Ranks.{counted, uncounted}
+use Rattle.std.specs.Prelude.{◌≤◌}
+
+-- each kind's cursor stands behind as many places of the kind as the first s places ask for
+pub record IsCursor (kinds opposites : List ℕ) (s k t : ℕ) : Type 0 where
+  pub until : t ≤ length kinds
+  pub passed : so_far kinds k t ≡ so_far opposites k s
+  pub kind : t < length kinds → get_or kinds t 0 ≡ k
+
+-- the first s places have their partners
+pub record ArePaired (kinds opposites : List ℕ) (s : ℕ) (cursors partners : List ℕ) : Type 0 where
+  pub as_many : length partners ≡ s
+  pub cursor : (k : ℕ) → k < length cursors → IsCursor kinds opposites s k (get_or cursors k 0)
+  pub inside : (t : ℕ) → t < s → get_or partners t 0 < length kinds
+  pub opposite : (t : ℕ) → t < s → get_or kinds (get_or partners t 0) 0 ≡ get_or opposites t 0
+  pub in_order : (t : ℕ) → t < s → so_far kinds (get_or opposites t 0) (get_or partners t 0) ≡ so_far opposites (get_or opposites t 0) t
 
 so_far_here : (xs : List ℕ) (k s : ℕ) → get_or xs s 0 ≡ k → so_far xs k (suc s) ≡ suc (so_far xs k s)
 so_far_here xs k s e = counted (λ t. eqb (get_or xs t 0) k) s (eq-eqb (get_or xs s 0) k e)
@@ -14,6 +30,7 @@ so_far_other : (xs : List ℕ) (k s : ℕ) → get_or xs s 0 ≢ k → so_far xs
 so_far_other xs k s d = uncounted (λ t. eqb (get_or xs t 0) k) s (ne_eqb (get_or xs s 0) k d)
 
 -- ---- links, from the last place down
+
 -- the place before the linked ones becomes the first of its kind, and the one that was the first follows it
 pub one_linked : (kinds firsts following : List ℕ) (here : ℕ) → AreLinked kinds (suc here) firsts following → here < length kinds → get_or kinds here 0 < length firsts →
     AreLinked kinds here (set firsts (get_or kinds here 0) here) (set following here (get_or firsts (get_or kinds here 0) 0))
@@ -53,6 +70,7 @@ one_linked kinds firsts following here are inside below =
     }
 
 -- ---- cursors along the links
+
 -- the cursor of a kind that is asked for stands at a place
 pub cursor_inside : (kinds opposites cursors partners : List ℕ) (bound s : ℕ) → AreMatchable kinds opposites bound → bound ≡ length cursors → ArePaired kinds opposites s cursors partners → s < length kinds → get_or cursors (get_or opposites s 0) 0 < length kinds
 cursor_inside kinds opposites cursors partners bound s may len are inside =

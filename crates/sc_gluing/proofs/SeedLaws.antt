@@ -12,7 +12,7 @@ use Rattle.sc_theory.specs.Chains.{Chain, IsChain, IsBalanced, word, weight, pos
 use Rattle.sc_theory.specs.Fatgraphs.{Sides, no_side, label, mate, IsFatgraph}
 use Rattle.sc_theory.proofs.ChainLaws.{word_of_place}
 use Rattle.sc_gluing.specs.Cycles.{at, after}
-use Rattle.sc_gluing.specs.Letters.{AreLetterMates}
+use Rattle.sc_gluing.specs.inside.Letters.{AreLetterMates}
 use Rattle.sc_gluing.specs.Seeds.{word_cycles, IsSeed}
 use Rattle.sc_gluing.proofs.CycleLaws.{size, after_inside, after_apart}
 use Rattle.sc_gluing.proofs.StepCounts.{no_own_inverse}

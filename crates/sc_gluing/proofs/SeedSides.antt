@@ -16,7 +16,7 @@ use Rattle.sc_theory.proofs.ChainSums.{sign, total_sum, chain_total_sum}
 use Rattle.sc_theory.proofs.ListSums.{list_sum, list_sum_is, list_sum-flat_map, list_sum-map, list_sum-range, list_sum-below}
 use Rattle.sc_theory.proofs.WordLaws.{same_letters, inverse_letter-inverse_letter}
 use Rattle.sc_gluing.specs.Cycles.{Parts, copies_of, labels_of, at, round, after}
-use Rattle.sc_gluing.specs.Letters.{AreLetterMates}
+use Rattle.sc_gluing.specs.inside.Letters.{AreLetterMates}
 use Rattle.sc_gluing.specs.Seeds.{positions_of, word_parts, word_cycles, same_letter, letter_rank}
 use Rattle.sc_gluing.proofs.CycleLaws.{size, size-cons, round_within, round_last, at_here, at_later, at_after_here, at_after_later, here_or_later}
 use Rattle.sc_gluing.proofs.Ranks.{Kth, kth, rank_below, same_rank}

@@ -4,7 +4,8 @@ use Rattle.std.proofs.Math.Seq.{get_or-append_seam}
 use Rattle.std.proofs.lemmas.List.{get_or_append_left}
 use Rattle.std.proofs.lemmas.Bool.{cases_eq}
 use Rattle.sc_theory.specs.Chains.{Chain, positions, succ, prev}
-use Rattle.sc_gluing.specs.Sides.{AreInside, end_at, kind, AreOpposites}
+use Rattle.sc_gluing.specs.inside.Sides.{AreInside, end_at, AreOpposites}
+use Rattle.sc_gluing.specs.Sides.{kind}
 
 -- one entry more
 entry_more : {A : Type 0} (d : A) (f : ℕ → A) (xs : List A) (n : ℕ) (x : A) → length xs ≡ n → ((s : ℕ) → s < n → get_or xs s d ≡ f s) → x ≡ f n → (s : ℕ) → s < n + 1 → get_or (xs ++ x ∷ []) s d ≡ f s

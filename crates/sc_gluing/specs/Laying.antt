@@ -1,6 +1,6 @@
 -- Cycles that are laid one behind another as lists of numbers.
-use Rattle.std.specs.Prelude.{◌≡◌, ℕ, ◌<◌, List, ◌++◌, ◌+◌, length, get_or, take, replicate}
-use Rattle.sc_gluing.specs.Cycles.{labels_of, round, after}
+use Rattle.std.specs.Prelude.{◌≡◌, ℕ, ◌<◌, List, ◌++◌, ◌+◌, length, get_or, replicate}
+use Rattle.sc_gluing.specs.Cycles.{labels_of, after}
 
 -- the label of each side along the cycles, and the side after it
 pub record AreLaid (cycles : List (List ℕ)) (labels afters : List ℕ) : Type 0 where
@@ -12,11 +12,3 @@ pub record AreLaid (cycles : List (List ℕ)) (labels afters : List ℕ) : Type 
 abbrev pub LaysBehind : ℕ → List ℕ → (labels afters labels' afters' : List ℕ) → Type 0
 LaysBehind n walk labels afters labels' afters' =
     (cycles : List (List ℕ)) → AreLaid cycles labels afters → AreLaid (cycles ++ replicate n walk) labels' afters'
-
--- ---- what is known on the way
--- the first n places of a cycle lie behind the cycles that lay there
-pub record IsLaidSoFar (walk labels afters : List ℕ) (n : ℕ) (labels' afters' : List ℕ) : Type 0 where
-  pub labels_are : labels' ≡ labels ++ take n walk
-  pub as_many : length afters' ≡ length afters + n
-  pub kept : (s : ℕ) → s < length afters → get_or afters' s 0 ≡ get_or afters s 0
-  pub new : (k : ℕ) → k < n → get_or afters' (length afters + k) 0 ≡ length labels + round (length walk) k

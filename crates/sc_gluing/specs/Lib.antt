@@ -5,3 +5,4 @@ pub mod Laying
 pub mod Matching
 pub mod Sides
 pub mod Letters
+pub mod inside

@@ -2,7 +2,8 @@
 //! The places of each kind are a linked list; a cursor a kind goes along it once.
 
 ghost use Rattle.std.specs.Prelude.{◌≡◌, ℕ, ◌<◌, ◌^◌, length, get_or, IfOk};
-ghost use Rattle.sc_gluing.specs.Matching.{ArePartners, AreMatchable, AreLinked, ArePaired};
+ghost use Rattle.sc_gluing.specs.Matching.{ArePartners, AreMatchable};
+ghost use Rattle.sc_gluing.specs.inside.Matching.{AreLinked};
 
 use std::alloc::{AllocError, Global};
 

@@ -7,7 +7,8 @@ ghost use Rattle.sc_chain.specs.declared.limits.TheConstants.{MAX_LENGTH};
 ghost use Rattle.sc_chain.specs.Faults.{IsSmallChain};
 ghost use Rattle.sc_gluing.specs.Cycles.{labels_of};
 ghost use Rattle.sc_gluing.specs.Laying.{AreLaid};
-ghost use Rattle.sc_gluing.specs.Letters.{code as the_code, AreCodes, AreInverseCodes, AreSeedMates, AreListed};
+ghost use Rattle.sc_gluing.specs.Letters.{code as the_code};
+ghost use Rattle.sc_gluing.specs.inside.Letters.{AreCodes, AreInverseCodes, AreSeedMates, AreListed};
 ghost use Rattle.sc_gluing.specs.Seeds.{positions_of as the_positions, word_cycles, IsSeed};
 
 use crate::laying::Laid;

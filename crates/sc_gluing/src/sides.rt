@@ -3,7 +3,8 @@
 ghost use Rattle.std.specs.Prelude.{◌≡◌, ℕ, ◌*◌, ◌<◌, ◌^◌, length, get_or, IfOk};
 ghost use Rattle.sc_theory.specs.Chains.{positions};
 ghost use Rattle.sc_gluing.specs.Gluing.{IsGlued};
-ghost use Rattle.sc_gluing.specs.Sides.{AreGlueable, AreInside, AreKinds, AreOpposites, AreMatchedSides, AreMates, AreSides};
+ghost use Rattle.sc_gluing.specs.Sides.{AreGlueable};
+ghost use Rattle.sc_gluing.specs.inside.Sides.{AreInside, AreKinds, AreOpposites, AreMatchedSides, AreMates, AreSides};
 
 use crate::laying::Laid;
 use crate::matching::partners_of;

@@ -2,9 +2,9 @@
 use Rattle.std.proofs.Common.{◌≡◌, ℕ, zero, suc, ◌+◌, ◌-◌, ◌≤◌, true, false, List, [], ◌∷◌, ◌++◌, map, length, None, refl, sym, ap, subst, ◌∙◌, append_assoc, append-nil, arith}
 use Rattle.std.specs.List.{AllByRecursion}
 use Rattle.sc_line.specs.Lines.{Line, count_line, count_in, lacks, AllLack}
-use Rattle.sc_line.specs.Formats.{Format, told, a_line, Reads, IsShort, IsLineKind, IsCountInRange}
+use Rattle.sc_line.specs.Formats.{Format, told, a_line, Reads, IsShort, IsLineKind}
+use Rattle.sc_line.proofs.NumberLaws.{IsCountInRange, good_literal, literal_inverse, count_is_kind}
 use Rattle.sc_line.specs.Forms.{LineKind, literal_due, one_due, lines_after, more_due, many_due, counted_from, Both, and_also, and_then, both_due, IsLawful}
-use Rattle.sc_line.proofs.NumberLaws.{good_literal, literal_inverse, count_is_kind}
 use Rattle.sc_line.proofs.FormatLaws.{told_is, line_told, nothing_more, short_more}
 
 -- no line feed in lines, and none in others: none in both, one behind the other

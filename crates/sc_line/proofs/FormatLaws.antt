@@ -11,6 +11,11 @@ use Rattle.sc_line.specs.Formats.{Format, told, a_line, due_line, after_line, af
 use Rattle.sc_line.proofs.LineLaws.{split_some}
 use Rattle.sc_line.proofs.FaultLaws.{HasRead, read_nothing, read_more, read_all, fault_at_part}
 
+abbrev pub end_fault : {V : Type 0} → Format V → Line → Option Kind
+end_fault (told v) [] = None
+end_fault (told v) (b ∷ bs) = Some Rest
+end_fault (a_line fault rest) bs = Some Ended
+
 -- ---- lines that are read in a format
 
 -- lines that lead from f to g, with others behind them that lead from g to h, lead from f to h

@@ -13,9 +13,14 @@ use Rattle.sc_line.specs.declared.fault.Kind.{Kind}
 use Rattle.sc_line.specs.declared.fault.Kind.TheVariants.{Form, Range}
 use Rattle.sc_line.specs.Lines.{Line, Field, fields, spaced, number_of, count_line, count_in, lacks}
 use Rattle.sc_line.specs.Faults.{NumberRange, between, are_numbers, are_in_range, numbers_fault, literal_fault, is_named, named_fault, numbers_line_fault}
-use Rattle.sc_line.specs.Formats.{IsLineKind, IsCountInRange}
+use Rattle.sc_line.specs.Formats.{IsLineKind}
 use Rattle.sc_line.specs.Forms.{Tells, count_kind}
 use Rattle.sc_line.proofs.LineLaws.{fields-spaced, lacks-spelling, number_of-spelling, number_of_is, same_bytes, named_is, line_from_fields}
+
+-- what a count may be
+pub record IsCountInRange (low high n : ℕ) : Type 0 where
+  pub low_end : low ≤ n
+  pub high_end : n ≤ high
 
 -- ---- ranges of natural numbers
 

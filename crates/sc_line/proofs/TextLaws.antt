@@ -13,11 +13,11 @@ use Rattle.sc_line.specs.declared.fault.LineFault.TheVariants.{Malformed}
 use Rattle.sc_line.specs.LineFaults.{IsFault, at_line}
 use Rattle.sc_line.specs.Lines.{Line, parts, text_of}
 use Rattle.sc_line.specs.Faults.{line_fault, part_fault, IsFaultless, IsFaultOf, IsFirstFault}
-use Rattle.sc_line.specs.Formats.{Format, told, a_line, is_told, after_lines, plan_of, fault_due, end_fault, Steps, Reads, IsShort}
+use Rattle.sc_line.specs.Formats.{Format, told, a_line, is_told, after_lines, plan_of, fault_due, Steps, Reads, IsShort}
+use Rattle.sc_line.proofs.FormatLaws.{end_fault, reads_append, reads_once, reads_after, told_is, one_step, short_read, line_fault_of, end_when_told, end_when_due, faultless_if_read, read_if_faultless}
 use Rattle.sc_line.specs.Forms.{IsLawful, IsToldBy, IsRead}
 use Rattle.sc_line.proofs.LineLaws.{parts-text_of, text_from_parts}
 use Rattle.sc_line.proofs.FaultLaws.{HasRead, read_nothing, read_more, fault_at_line, first_fault_here, answered}
-use Rattle.sc_line.proofs.FormatLaws.{reads_append, reads_once, reads_after, told_is, one_step, short_read, line_fault_of, end_when_told, end_when_due, faultless_if_read, read_if_faultless}
 
 -- ---- texts in a lawful form
 

@@ -1,7 +1,7 @@
 -- Formats: which line is due in a text, the fault of each, and what the lines tell.
-use Rattle.std.specs.Prelude.{◌≡◌, ℕ, zero, suc, ◌≤◌, Bool, true, false, List, [], ◌∷◌, Option, Some, None}
+use Rattle.std.specs.Prelude.{◌≡◌, ℕ, zero, suc, Bool, true, false, List, [], ◌∷◌, Option, Some, None}
 use Rattle.sc_line.specs.declared.fault.Kind.{Kind}
-use Rattle.sc_line.specs.declared.fault.Kind.TheVariants.{Ended, Rest}
+use Rattle.sc_line.specs.declared.fault.Kind.TheVariants.{Rest}
 use Rattle.sc_line.specs.Lines.{Line}
 use Rattle.sc_line.specs.Faults.{Plan}
 
@@ -39,11 +39,6 @@ abbrev pub fault_due : {V : Type 0} → Format V → Line → Option Kind
 fault_due (told v) line = Some Rest
 fault_due (a_line fault rest) line = fault line
 
-abbrev pub end_fault : {V : Type 0} → Format V → Line → Option Kind
-end_fault (told v) [] = None
-end_fault (told v) (b ∷ bs) = Some Rest
-end_fault (a_line fault rest) bs = Some Ended
-
 -- a line without a fault was due, and this is due after it
 pub record Steps {V : Type 0} (old new : Format V) (line : Line) : Type 0 where
   pub good : fault_due old line ≡ None
@@ -69,8 +64,3 @@ pub record IsLineKind {A : Type 0} (fault : Line → Option Kind) (value : Line 
   pub value_is : (x : A) → InRange x → value (line_for x) ≡ x
   pub in_range : (line : Line) → fault line ≡ None → InRange (value line)
   pub line_is : (line : Line) → fault line ≡ None → line ≡ line_for (value line)
-
--- what a count may be
-pub record IsCountInRange (low high n : ℕ) : Type 0 where
-  pub low_end : low ≤ n
-  pub high_end : n ≤ high

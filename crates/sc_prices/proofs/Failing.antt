@@ -9,7 +9,8 @@ use Rattle.std.proofs.lemmas.Result.{IfOk-weaker}
 use Rattle.std.specs.Cmp.{Equal-is}
 use Rattle.std.specs.Ordering.{int_eq, is_eq}
 use Rattle.sc_fraction.specs.Ints.{mul_cancel_z, int_cmp_same, same_from_int_cmp}
-use Rattle.sc_fraction.specs.Laws.{same_frac, frac_eq_is}
+use Rattle.sc_fraction.proofs.SameValues.{same_frac}
+use Rattle.sc_fraction.specs.Laws.{frac_eq_is}
 use Rattle.sc_fraction.specs.Frac.{numerator, denominator, IsQuotient, frac_cmp}
 use Rattle.sc_fraction.specs.declared.frac.Frac.{Frac}
 use Rattle.sc_text.specs.Surfaces.{IsChainInRange}

@@ -11,7 +11,8 @@ use Rattle.sc_text.specs.declared.limits.TheConstants.{MAX_PRICE}
 use Rattle.sc_text.specs.PriceLines.{IsScaleInRange, IsPriceInRange}
 use Rattle.sc_text.specs.TableLines.{IsEntryInRange}
 use Rattle.sc_certificate.specs.Bounds.{IsWithinPrices}
-use Rattle.sc_prices.specs.Sizes.{AreVertices, IsOfPrices}
+use Rattle.sc_prices.specs.Sizes.{AreVertices}
+use Rattle.sc_prices.specs.inside.Sizes.{IsOfPrices}
 
 pub no_prices : IsOfPrices 0 (pos 0)
 no_prices = record { low = omega (arith, ints); high = omega (arith, ints) }

@@ -9,7 +9,7 @@ use Rattle.sc_theory.specs.Prices.{Prices, Tables, entry, price, Vouch}
 use Rattle.sc_prices.specs.declared.flaws.TableFlaw.{TableFlaw}
 use Rattle.sc_prices.specs.declared.flaws.TableFlaw.TheVariants.{Start, Step}
 use Rattle.sc_prices.specs.Flaws.{HasStepFlaw, HasTableFlaw, IsAbove, Undercuts, IsBefore, IsFirstTableFlaw}
-use Rattle.sc_prices.specs.Rows.{start_of}
+use Rattle.sc_prices.specs.inside.Rows.{start_of}
 
 is_zero_or : (e : Option ℤ) → (e ≡ Some (pos 0)) ⊎ (e ≢ Some (pos 0))
 is_zero_or None = inr (λ h. cc)

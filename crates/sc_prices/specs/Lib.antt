@@ -1,6 +1,5 @@
 pub mod Flaws
-pub mod Rows
 pub mod Sizes
 pub mod Conditions
-pub mod Answers
 pub mod Parts
+pub mod inside

@@ -1,15 +1,9 @@
 -- What is counted over a chain, and how large the numbers are that prices are added up to.
-use Rattle.std.specs.Prelude.{◌≡◌, ℕ, ℤ, pos, neg_ℤ, ◌*ℤ◌, ◌≤ℤ◌}
+use Rattle.std.specs.Prelude.{◌≡◌, ℕ}
 use Rattle.sc_theory.specs.Chains.{Chain}
 use Rattle.sc_theory.specs.Fatgraphs.{Sides, vertices}
-use Rattle.sc_text.specs.declared.limits.TheConstants.{MAX_PRICE}
 use Rattle.sc_fatgraph.specs.Surfaces.{surface, IsSurface}
 
 -- some labelled fatgraph with n copies of the chain, within the limits, has so many vertices
 abbrev pub AreVertices : Chain → ℕ → ℕ → Type 0
 AreVertices c n v = (g : Sides) × IsSurface (surface c n g) × (v ≡ vertices g)
-
--- at most k prices in size
-pub record IsOfPrices (k : ℕ) (z : ℤ) : Type 0 where
-  pub low : neg_ℤ (pos k *ℤ MAX_PRICE) ≤ℤ z
-  pub high : z ≤ℤ (pos k *ℤ MAX_PRICE)

@@ -6,7 +6,7 @@ ghost use Rattle.sc_theory.specs.Prices.{pairs as inverse_pairs};
 ghost use Rattle.sc_chain.specs.declared.polygon.Pivot.{Pivot};
 ghost use Rattle.sc_fraction.specs.Frac.{IsQuotient};
 ghost use Rattle.sc_certificate.specs.Sizes.{FitsCounts};
-ghost use Rattle.sc_prices.specs.Answers.{IsListAnswer};
+ghost use Rattle.sc_prices.specs.inside.Answers.{IsListAnswer};
 ghost use Rattle.sc_prices.specs.Conditions.{stated, IsVerdictOn};
 
 use crate::tightness::tight;

@@ -6,7 +6,7 @@ ghost use Rattle.sc_theory.specs.Prices.{pairs as inverse_pairs, price, base_pri
 ghost use Rattle.sc_text.specs.PriceLines.{IsPriceInRange};
 ghost use Rattle.sc_chain.specs.Pairs.{row_in, row_price};
 ghost use Rattle.sc_certificate.specs.Sizes.{FitsCounts};
-ghost use Rattle.sc_prices.specs.Sizes.{IsOfPrices};
+ghost use Rattle.sc_prices.specs.inside.Sizes.{IsOfPrices};
 
 use sc_certificate::{PriceList, word_price};
 use sc_chain::{Chain, Pairs, Sign};

@@ -3,7 +3,8 @@
 ghost use Rattle.std.specs.Prelude.{◌≡◌, ◌↔◌, length, IsTrue, pos, ◌*ℤ◌};
 ghost use Rattle.sc_theory.specs.Chains.{weighted_length};
 ghost use Rattle.sc_theory.specs.Prices.{bound};
-ghost use Rattle.sc_prices.specs.Sizes.{AreVertices, IsOfPrices};
+ghost use Rattle.sc_prices.specs.Sizes.{AreVertices};
+ghost use Rattle.sc_prices.specs.inside.Sizes.{IsOfPrices};
 
 use sc_certificate::{PriceList, bound_from};
 use sc_chain::Chain;

@@ -4,9 +4,9 @@ ghost use Rattle.std.specs.Prelude.{◌≡◌, ◌↔◌, ◌<◌, ℤ, length, 
 ghost use Rattle.sc_theory.specs.Chains.{positions};
 ghost use Rattle.sc_theory.specs.Prices.{pairs as inverse_pairs, Vouch};
 ghost use Rattle.sc_certificate.specs.Sizes.{FitsCounts};
-ghost use Rattle.sc_fatgraph.specs.Flaws.{IsLeastPlace};
+ghost use Rattle.sc_fatgraph.specs.inside.Flaws.{IsLeastPlace};
 ghost use Rattle.sc_prices.specs.Flaws.{Undercuts, HasStepFlaw, IsFirstTableFlaw};
-ghost use Rattle.sc_prices.specs.Rows.{IsFirstInRow};
+ghost use Rattle.sc_prices.specs.inside.Rows.{IsFirstInRow};
 
 use crate::flaws::TableFlaw;
 use crate::prices::step_price;

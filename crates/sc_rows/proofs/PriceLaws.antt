@@ -14,9 +14,10 @@ use Rattle.sc_basis.proofs.Pivoting.{prices_after}
 use Rattle.sc_rows.specs.Lines.{Line, row_of, den_of}
 use Rattle.sc_rows.specs.Standing.{ArePrices, RowsStand, PricesStand, entries_of, gap_at}
 use Rattle.sc_rows.specs.Places.{IsWideBy}
-use Rattle.sc_rows.specs.Updates.{IsUpdated, IsWideUpdate}
+use Rattle.sc_rows.specs.inside.Updates.{IsUpdated}
+use Rattle.sc_rows.specs.Updates.{IsWideUpdate}
 use Rattle.sc_rows.specs.Evidence.{IsWideGap, IsWidePrices, IsWidePricePivot}
-use Rattle.sc_rows.specs.NewPrices.{IsNewPrices, IsWideAtLevel}
+use Rattle.sc_rows.specs.inside.NewPrices.{IsNewPrices, IsWideAtLevel}
 use Rattle.sc_rows.specs.declared.fault.RowFault.{RowFault}
 use Rattle.sc_rows.specs.declared.fault.RowFault.TheVariants.{Wide, Memory}
 use Rattle.sc_rows.specs.declared.fault.WideAt.{WideAt}

@@ -9,10 +9,12 @@ use Rattle.sc_basis.specs.Products.{at, IsCoprime, IsReduced}
 use Rattle.sc_basis.specs.Pivots.{RowsPivoted}
 use Rattle.sc_basis.proofs.Numbers.{mul_pos, pos_of_mul}
 use Rattle.sc_basis.proofs.RuleLaws.{row_by_rule}
-use Rattle.sc_rows.specs.Lines.{Line, AreRows, IsUnitLine, no_line, row_of, den_of}
+use Rattle.sc_rows.specs.Lines.{Line, AreRows, no_line, row_of, den_of}
+use Rattle.sc_rows.specs.inside.Lines.{IsUnitLine}
 use Rattle.sc_rows.specs.Places.{IsWideBy}
-use Rattle.sc_rows.specs.Updates.{IsUpdated, IsWideUpdate}
-use Rattle.sc_rows.specs.Fresh.{IsRowPivoted, AreFresh, chosen}
+use Rattle.sc_rows.specs.inside.Updates.{IsUpdated}
+use Rattle.sc_rows.specs.Updates.{IsWideUpdate}
+use Rattle.sc_rows.specs.inside.Fresh.{IsRowPivoted, AreFresh, chosen}
 use Rattle.sc_rows.specs.Evidence.{IsWidePivot}
 use Rattle.sc_rows.specs.declared.fault.RowFault.{RowFault}
 use Rattle.sc_rows.specs.declared.fault.RowFault.TheVariants.{Wide, Memory}

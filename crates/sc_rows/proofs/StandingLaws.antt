@@ -11,7 +11,8 @@ use Rattle.sc_basis.specs.Standing.{Gives, Stands}
 use Rattle.sc_basis.specs.Pivots.{after_pivot}
 use Rattle.sc_basis.proofs.Units.{dot-columns-units}
 use Rattle.sc_basis.proofs.Pivoting.{rows_after}
-use Rattle.sc_rows.specs.Lines.{Line, IsUnitLine, no_line, row_of, den_of}
+use Rattle.sc_rows.specs.Lines.{Line, no_line, row_of, den_of}
+use Rattle.sc_rows.specs.inside.Lines.{IsUnitLine}
 use Rattle.sc_rows.specs.Standing.{RowsStand, PricesStand, numbers_of}
 use Rattle.sc_rows.specs.declared.prices.PriceRows.{PriceRows}
 use Rattle.sc_rows.proofs.RowLaws.{ArePutIn, rows_pivoted, coprime_again, over_one}

@@ -8,7 +8,8 @@ use Rattle.sc_basis.specs.Products.{at}
 use Rattle.sc_basis.specs.Rules.{IsLowest}
 use Rattle.sc_basis.proofs.Numbers.{mul_pos, pos_of_mul}
 use Rattle.sc_rows.specs.Places.{IsWideBy}
-use Rattle.sc_rows.specs.Updates.{joined, AreJoined, IsWideAmong, IsWideUpdate}
+use Rattle.sc_rows.specs.Updates.{joined, IsWideUpdate}
+use Rattle.sc_rows.specs.inside.Updates.{AreJoined, IsWideAmong}
 use Rattle.sc_rows.specs.declared.fault.RowFault.{RowFault}
 use Rattle.sc_rows.specs.declared.fault.RowFault.TheVariants.{Wide, Memory}
 use Rattle.sc_rows.specs.declared.update.Update.{Update}

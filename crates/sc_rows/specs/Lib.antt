@@ -2,6 +2,5 @@ pub mod Lines
 pub mod Standing
 pub mod Places
 pub mod Updates
-pub mod Fresh
 pub mod Evidence
-pub mod NewPrices
+pub mod inside

@@ -1,6 +1,6 @@
 -- Lists of whole numbers with a denominator, one for each row.
 use Rattle.std.specs.Prelude.{◌≡◌, ℕ, ◌<◌, List, [], length, get_or, ℤ, pos, ◌<ℤ◌}
-use Rattle.sc_basis.specs.Products.{at, unit, IsCoprime}
+use Rattle.sc_basis.specs.Products.{at, IsCoprime}
 
 -- entries over one denominator
 pub record Line : Type 0 where
@@ -22,9 +22,3 @@ pub record AreRows (rows : List Line) : Type 0 where
   pub sizes : (i : ℕ) → i < length rows → length (get_or rows i no_line).entries ≡ length rows
   pub dens : (i : ℕ) → i < length rows → pos 0 <ℤ den_of rows i
   pub coprime : (i : ℕ) → i < length rows → IsCoprime (length rows) (row_of rows i) (den_of rows i)
-
--- the row i of the identity
-pub record IsUnitLine (r i : ℕ) (line : Line) : Type 0 where
-  pub size : length line.entries ≡ r
-  pub entries : (k : ℕ) → k < r → at line.entries k ≡ unit i k
-  pub den : line.den ≡ pos 1

@@ -1,10 +1,8 @@
 -- New rows and new prices by the rule with a ratio in lowest terms.
-use Rattle.std.specs.Prelude.{◌≡◌, ◌⊎◌, ℕ, ◌<◌, Some, ℤ, ◌+ℤ◌, ◌-ℤ◌, ◌*ℤ◌}
+use Rattle.std.specs.Prelude.{◌⊎◌, ℕ, ◌<◌, Some, ℤ, ◌+ℤ◌, ◌-ℤ◌, ◌*ℤ◌}
 use Rattle.sc_whole.specs.declared.checked.Op.{Op}
 use Rattle.sc_whole.specs.declared.checked.Op.TheVariants.{Add, Sub, Mul}
-use Rattle.sc_basis.specs.Products.{at, IsReduced}
 use Rattle.sc_basis.specs.Rules.{IsLowest}
-use Rattle.sc_rows.specs.Lines.{Line}
 use Rattle.sc_rows.specs.Places.{spot, IsWide}
 use Rattle.sc_rows.specs.declared.fault.Place.TheVariants.{RowLeft, RowRight, RowMinus, RowScale, PriceLeft, PriceRight, PriceAdd, PriceScale}
 use Rattle.sc_rows.specs.declared.fault.WideAt.{WideAt}
@@ -22,6 +20,7 @@ joined (Row i l) x y = x -ℤ y
 joined (Prices level l) x y = x +ℤ y
 
 -- ---- the operations at the entry k, and at the scale
+
 abbrev pub left_spot : Update → ℕ → Spot
 left_spot (Row i l) k = spot RowLeft i k (Some l)
 left_spot (Prices level l) k = spot (PriceLeft level) k 0 (Some l)
@@ -39,12 +38,6 @@ scale_spot (Row i l) = spot RowScale i 0 (Some l)
 scale_spot (Prices level l) = spot (PriceScale level) 0 0 (Some l)
 
 -- ---- what comes of it
--- the list x over d, whose product with the column (or whose gap) is a, where t over m is the leaving row over its product
-pub record IsUpdated (u : Update) (n : ℕ) (x : ℕ → ℤ) (d : ℤ) (t : ℕ → ℤ) (m a : ℤ) (new : Line) : Type 0 where
-  pub p : ℤ
-  pub q : ℤ
-  pub ratio : IsLowest m a p q
-  pub reduced : IsReduced n (at new.entries) new.den (λ k. joined u (x k *ℤ p) (q *ℤ t k)) (d *ℤ p)
 
 -- at the entry k one of three operations is too wide
 abbrev pub IsWideEntry : Update → ℕ → ℤ → ℤ → ℤ → ℤ → WideAt → Type 0
@@ -56,11 +49,3 @@ pub record IsWideUpdate (u : Update) (n : ℕ) (x : ℕ → ℤ) (d : ℤ) (t : 
   pub q : ℤ
   pub ratio : IsLowest m a p q
   pub wide : ((k : ℕ) × (k < n) × IsWideEntry u k (x k) (t k) p q w) ⊎ IsWide (scale_spot u) Mul d p w
-
--- the first n entries of y are made of those of x and t with the ratio q over p
-abbrev pub AreJoined : Update → ℕ → (ℕ → ℤ) → (ℕ → ℤ) → ℤ → ℤ → (ℕ → ℤ) → Type 0
-AreJoined u n x t p q y = (k : ℕ) → k < n → y k ≡ joined u (x k *ℤ p) (q *ℤ t k)
-
--- at one of the first n entries an operation is too wide
-abbrev pub IsWideAmong : Update → ℕ → (ℕ → ℤ) → (ℕ → ℤ) → ℤ → ℤ → WideAt → Type 0
-IsWideAmong u n x t p q w = (k : ℕ) × (k < n) × IsWideEntry u k (x k) (t k) p q w

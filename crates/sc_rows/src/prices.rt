@@ -7,7 +7,7 @@ ghost use Rattle.sc_rows.specs.Lines.{row_of};
 ghost use Rattle.sc_rows.specs.Standing.{ArePrices, AreNewPrices, RowsStand, PricesStand, cost_at, entries_of, gap_at};
 ghost use Rattle.sc_rows.specs.Places.{IsWideBy};
 ghost use Rattle.sc_rows.specs.Evidence.{IsWideGap, IsWidePricePivot};
-ghost use Rattle.sc_rows.specs.NewPrices.{IsNewPrices, IsWideAtLevel};
+ghost use Rattle.sc_rows.specs.inside.NewPrices.{IsNewPrices, IsWideAtLevel};
 
 use crate::lists::Quotients;
 use crate::product::{Product, product_with_column};

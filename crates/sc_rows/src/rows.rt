@@ -3,10 +3,11 @@ ghost use Rattle.std.specs.Prelude.{◌≡◌, ◌≢◌, ℕ, ◌<◌, ◌^◌,
 ghost use Rattle.sc_basis.specs.Products.{at, dot, unit, IsReduced};
 ghost use Rattle.sc_basis.specs.Bases.{Basis, Column, entry_of, IsAscending, unit_basis};
 ghost use Rattle.sc_basis.specs.Pivots.{RowsPivoted, after_pivot};
-ghost use Rattle.sc_rows.specs.Lines.{AreRows, IsUnitLine, no_line, row_of, den_of};
+ghost use Rattle.sc_rows.specs.Lines.{AreRows, no_line, row_of, den_of};
+ghost use Rattle.sc_rows.specs.inside.Lines.{IsUnitLine};
 ghost use Rattle.sc_rows.specs.Standing.{RowsStand};
 ghost use Rattle.sc_rows.specs.Places.{IsWideBy, IsWideProduct};
-ghost use Rattle.sc_rows.specs.Fresh.{IsFresh, AreFresh, chosen};
+ghost use Rattle.sc_rows.specs.inside.Fresh.{IsFresh, AreFresh, chosen};
 ghost use Rattle.sc_rows.specs.Evidence.{IsWideAlong, IsWideValue, IsWidePivot};
 
 use crate::lists::{Quotients, over};

@@ -2,7 +2,8 @@
 ghost use Rattle.std.specs.Prelude.{◌≡◌, ◌<◌, ◌^◌, true, length, pos, ◌*ℤ◌, ◌<ℤ◌, IfOk, IfErr, OnOk};
 ghost use Rattle.sc_basis.specs.Products.{at};
 ghost use Rattle.sc_rows.specs.Places.{IsWide, IsWideBy};
-ghost use Rattle.sc_rows.specs.Updates.{join_op, joined, left_spot, right_spot, join_spot, scale_spot, IsUpdated, IsWideEntry, IsWideUpdate, AreJoined, IsWideAmong};
+ghost use Rattle.sc_rows.specs.Updates.{join_op, joined, left_spot, right_spot, join_spot, scale_spot, IsWideEntry, IsWideUpdate};
+ghost use Rattle.sc_rows.specs.inside.Updates.{IsUpdated, AreJoined, IsWideAmong};
 
 use crate::lists::{Quotients, Ratio, lowest, reduce};
 use crate::spot::{Spot, difference_of, multiply, sum_of};

@@ -7,7 +7,8 @@ use Rattle.sc_theory.specs.Chains.{Chain, word, word_of}
 use Rattle.sc_theory.specs.Fatgraphs.{Sides, label, turn}
 use Rattle.sc_shape.specs.Classes.{entry}
 use Rattle.sc_shape.specs.Shapes.{list_below, boundary_of, component_of, AreComponents}
-use Rattle.sc_shape.specs.Tables.{AreLeasts, AreTallies, bare, boundary_with, with_boundaries, is_own}
+use Rattle.sc_shape.specs.inside.Tables.{AreLeasts, AreTallies, bare, boundary_with, with_boundaries}
+use Rattle.sc_shape.specs.Tables.{is_own}
 use Rattle.sc_shape.specs.declared.component.Boundary.{Boundary}
 use Rattle.sc_shape.specs.declared.component.Component.{Component}
 use Rattle.sc_shape.proofs.ListsBelow.{map-list_below, map_map}

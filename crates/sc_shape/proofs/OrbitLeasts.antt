@@ -6,11 +6,13 @@ use Rattle.sc_algebra.specs.Permutations.{IsPermutation, is_least_for}
 use Rattle.sc_algebra.proofs.Cycles.{iterate-add, period, least_means_least}
 use Rattle.sc_fatgraph.proofs.MarkedOrbits.{smaller_iterate, turn_permutes}
 use Rattle.sc_fatgraph.proofs.MarkWalks.{turn_in_range}
-use Rattle.sc_fatgraph.specs.Orbits.{IsRibbon}
+use Rattle.sc_fatgraph.specs.inside.Orbits.{IsRibbon}
 use Rattle.sc_theory.specs.Fatgraphs.{Sides, mate, next, turn}
-use Rattle.sc_shape.specs.Classes.{along, LeadsTo, IsLeastLeading, entry, StaysBelow, AreLeast}
+use Rattle.sc_shape.specs.Classes.{along, LeadsTo, IsLeastLeading, entry}
+use Rattle.sc_shape.specs.inside.Classes.{StaysBelow, AreLeast}
 use Rattle.sc_shape.specs.Shapes.{IsLeastOfComponent, IsLeastOfBoundary}
-use Rattle.sc_shape.specs.Tables.{AreValues, AreSteps, AreLeasts, PointInside, is_own}
+use Rattle.sc_shape.specs.Tables.{AreValues, is_own}
+use Rattle.sc_shape.specs.inside.Tables.{AreSteps, AreLeasts, PointInside}
 
 -- ---- maps that agree below n
 along-congr : (f g f' g' : ℕ → ℕ) (n : ℕ) → StaysBelow n f → StaysBelow n g → ((s : ℕ) → s < n → f s ≡ f' s) → ((s : ℕ) → s < n → g s ≡ g' s) → (path : List Bool) (s : ℕ) → s < n → along f g path s ≡ along f' g' path s

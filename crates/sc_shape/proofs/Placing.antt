@@ -9,7 +9,8 @@ use Rattle.sc_theory.specs.Chains.{Chain, word_of, word as the_word}
 use Rattle.sc_theory.specs.Fatgraphs.{Sides, label, mate, next}
 use Rattle.sc_shape.specs.Classes.{entry, IsLeastLeading}
 use Rattle.sc_shape.specs.Shapes.{list_below, IsLeastOfComponent}
-use Rattle.sc_shape.specs.Tables.{AreLeasts, AreAtPlaces, ArePlaces, PointInside, bare, boundary_with, with_boundaries, no_component, is_own}
+use Rattle.sc_shape.specs.inside.Tables.{AreLeasts, AreAtPlaces, ArePlaces, PointInside, bare, boundary_with, with_boundaries, no_component}
+use Rattle.sc_shape.specs.Tables.{is_own}
 use Rattle.sc_shape.specs.declared.component.Boundary.{Boundary}
 use Rattle.sc_shape.specs.declared.component.Component.{Component}
 use Rattle.sc_shape.proofs.Spreading.{leads_further, least_at_most}

@@ -6,7 +6,8 @@ use Rattle.std.proofs.Math.Seq.{get_or-append_seam}
 use Rattle.std.proofs.lemmas.Bool.{cases_eq, cases_lt, cases_Bool, false≢true}
 use Rattle.std.proofs.lemmas.List.{length_push, set-get_or}
 use Rattle.std.proofs.lemmas.List.Sums.{sum_by-set}
-use Rattle.sc_shape.specs.Classes.{along, LeadsTo, IsLeastLeading, entry, StaysBelow, AreLeast, IsMarked, AreClassesBelow}
+use Rattle.sc_shape.specs.Classes.{along, LeadsTo, IsLeastLeading, entry}
+use Rattle.sc_shape.specs.inside.Classes.{StaysBelow, AreLeast, IsMarked, AreClassesBelow}
 
 -- ---- paths
 along-append : (f g : ℕ → ℕ) (path more : List Bool) (s : ℕ) → along f g (path ++ more) s ≡ along f g more (along f g path s)

@@ -1,7 +1,8 @@
 //! Classes of numbers that the steps of two maps join: the least number of the class of each.
 
 ghost use Rattle.std.specs.Prelude.{◌≡◌, ◌+◌, ◌<◌, ◌^◌, ◌∷◌, ◌++◌, [], true, false, if◌then◌else◌, length, get_or, slice_set, OnOk, IfOk, vec_len};
-ghost use Rattle.sc_shape.specs.Classes.{AreClassesBelow, AreLeast, StaysBelow, entry};
+ghost use Rattle.sc_shape.specs.inside.Classes.{AreClassesBelow, AreLeast, StaysBelow};
+ghost use Rattle.sc_shape.specs.Classes.{entry};
 
 use std::alloc::{AllocError, Global};
 

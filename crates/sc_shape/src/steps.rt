@@ -3,8 +3,9 @@
 ghost use Rattle.std.specs.Prelude.{◌≡◌, ℕ, ◌<◌, ◌^◌, length, IfOk};
 ghost use Rattle.sc_algebra.specs.Permutations.{is_least_for};
 ghost use Rattle.sc_theory.specs.Fatgraphs.{next, turn};
-ghost use Rattle.sc_fatgraph.specs.Orbits.{IsRibbon};
-ghost use Rattle.sc_shape.specs.Tables.{AreSteps, AreLeasts, is_own};
+ghost use Rattle.sc_fatgraph.specs.inside.Orbits.{IsRibbon};
+ghost use Rattle.sc_shape.specs.inside.Tables.{AreSteps, AreLeasts};
+ghost use Rattle.sc_shape.specs.Tables.{is_own};
 
 use crate::classes::least_of_classes;
 use sc_fatgraph::{Fatgraph, Side};

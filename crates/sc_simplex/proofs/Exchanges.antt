@@ -13,7 +13,7 @@ use Rattle.sc_rows.specs.declared.fault.WideAt.{WideAt}
 use Rattle.sc_rows.specs.declared.fault.RowFault.{RowFault}
 use Rattle.sc_rows.specs.declared.fault.RowFault.TheVariants.{Wide, Memory}
 use Rattle.sc_rows.specs.declared.prices.PriceRows.{PriceRows}
-use Rattle.sc_simplex.specs.Leaving.{NoneTie}
+use Rattle.sc_simplex.specs.inside.Leaving.{NoneTie}
 
 -- where one kind of evidence gives another, a refusal with the one is a refusal with the other
 pub fault_weaker : (P Q : WideAt → Type 0) → ((w : WideAt) → P w → Q w) → (f : RowFault) → IsWideBy P f → IsWideBy Q f

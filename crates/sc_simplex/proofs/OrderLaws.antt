@@ -9,8 +9,9 @@ use Rattle.sc_basis.specs.Lines.{line}
 use Rattle.sc_basis.proofs.LexOrder.{lex_map}
 use Rattle.sc_basis.proofs.RowOrder.{least_first, none_more, least_kept, least_taken}
 use Rattle.sc_rows.specs.Lines.{Line, row_of}
-use Rattle.sc_simplex.specs.Orders.{IsLexOrder, headed}
-use Rattle.sc_simplex.specs.Leaving.{NoneTie, IsBestRow, IsBest}
+use Rattle.sc_simplex.specs.inside.Orders.{IsLexOrder}
+use Rattle.sc_simplex.specs.Orders.{headed}
+use Rattle.sc_simplex.specs.inside.Leaving.{NoneTie, IsBestRow, IsBest}
 use Rattle.sc_simplex.specs.declared.leaving.Best.{Best}
 
 -- ---- entries and lists

@@ -40,12 +40,12 @@ use Rattle.sc_simplex.specs.declared.solving.SimplexFault.{SimplexFault}
 use Rattle.sc_simplex.specs.declared.solving.SimplexFault.TheVariants.{Budget, Wide, Memory}
 use Rattle.sc_simplex.specs.declared.state.State.{State}
 use Rattle.sc_simplex.specs.Columns.{key_of}
-use Rattle.sc_simplex.specs.Evidence.{IsWideSomeValue, IsWideFor, IsWideTold, speaks_of_column}
+use Rattle.sc_simplex.specs.inside.Evidence.{IsWideSomeValue, IsWideFor, IsWideTold, speaks_of_column}
 use Rattle.sc_simplex.specs.NamedJournals.{AreNamed, RisesAlong, IsLawfulBy, basis_of, first_seen, pivot_key}
 use Rattle.sc_simplex.specs.Optima.{IsItem, AreColumns, AreItems, AreValues, no_item, IsOptimum, IsUsedUp, IsWideAfter, IsStopped, IsSumOfColumns}
 use Rattle.sc_simplex.specs.Oracles.{ColumnsBy, ShownBy, ImprovesAt, NoneImproves, IsShown}
-use Rattle.sc_simplex.specs.States.{IsState}
-use Rattle.sc_simplex.specs.Stops.{IsStopBy, IsStopByOracle, IsMadeOf}
+use Rattle.sc_simplex.specs.inside.States.{IsState}
+use Rattle.sc_simplex.specs.inside.Stops.{IsStopBy, IsStopByOracle, IsMadeOf}
 use Rattle.sc_simplex.specs.WideOperations.{TellsPlace, IsEnteringTold}
 use Rattle.sc_simplex.proofs.ToldLaws.{needs, told_silent}
 use Rattle.sc_simplex.proofs.WideLaws.{value_for}

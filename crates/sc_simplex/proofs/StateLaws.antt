@@ -24,7 +24,7 @@ use Rattle.sc_simplex.specs.Columns.{key_of, IsKeyAt}
 use Rattle.sc_simplex.specs.Oracles.{ColumnsBy, ImprovesAt}
 use Rattle.sc_simplex.specs.NamedJournals.{AreNamed, basis_of, first_seen, pivot_key}
 use Rattle.sc_simplex.specs.Optima.{IsItem, AreColumns, AreItems, no_item}
-use Rattle.sc_simplex.specs.States.{IsState, IsReady, RowsFollow, PricesFollow, IsPushed, IsNoted}
+use Rattle.sc_simplex.specs.inside.States.{IsState, IsReady, RowsFollow, PricesFollow, IsPushed, IsNoted}
 use Rattle.sc_simplex.proofs.FirstSeen.{Known, New, one_more_key, length_first_seen}
 
 -- ---- named journals

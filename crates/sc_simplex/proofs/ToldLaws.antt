@@ -10,7 +10,7 @@ use Rattle.sc_basis.specs.Evidence.{Place, along_product, along_sum, value_produ
 use Rattle.sc_rows.specs.declared.fault.WideAt.{WideAt}
 use Rattle.sc_simplex.specs.Oracles.{ColumnsBy}
 use Rattle.sc_simplex.specs.WideOperations.{TellsPlace, IsEnteringTold, name_of}
-use Rattle.sc_simplex.specs.Evidence.{IsWideFor, IsWideTold, speaks_of_column}
+use Rattle.sc_simplex.specs.inside.Evidence.{IsWideFor, IsWideTold, speaks_of_column}
 
 speaks_names : (place : Place) → speaks_of_column (name_of place) ≡ needs_entering place
 speaks_names (along_product i k) = refl

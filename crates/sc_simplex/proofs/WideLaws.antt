@@ -21,7 +21,7 @@ use Rattle.sc_rows.specs.declared.fault.Place.{Place as Named}
 use Rattle.sc_rows.specs.declared.fault.WideAt.{WideAt}
 use Rattle.sc_rows.specs.declared.prices.PriceRows.{PriceRows}
 use Rattle.sc_simplex.specs.WideOperations.{name_of, indices_of, op_of}
-use Rattle.sc_simplex.specs.Evidence.{IsWideSomeValue, IsWideFor}
+use Rattle.sc_simplex.specs.inside.Evidence.{IsWideSomeValue, IsWideFor}
 
 -- an operation at a spot as one at a place
 wide_for : (r : ℕ) (b : ℕ → ℤ) (t : BasisNumbers) (c : Entries) (place : Place) (name : Named) (first second : ℕ) (leaving : Option ℕ) (op : Op) (x y : ℤ) (w : WideAt)

@@ -1,11 +1,8 @@
 pub mod Columns
 pub mod Stored
 pub mod Orders
-pub mod Evidence
-pub mod Leaving
 pub mod Oracles
 pub mod NamedJournals
 pub mod WideOperations
 pub mod Optima
-pub mod States
-pub mod Stops
+pub mod inside

@@ -5,9 +5,10 @@ ghost use Rattle.std.specs.Prelude.{◌≡◌, ◌<◌, ◌+◌, ◌^◌, suc, l
 ghost use Rattle.sc_basis.specs.Products.{at, dot};
 ghost use Rattle.sc_rows.specs.Lines.{row_of};
 ghost use Rattle.sc_rows.specs.Evidence.{IsWideValue};
-ghost use Rattle.sc_simplex.specs.Orders.{IsOrder, IsLexOrder, headed};
-ghost use Rattle.sc_simplex.specs.Leaving.{NoneTie, IsBest, IsLeastOrNone};
-ghost use Rattle.sc_simplex.specs.Evidence.{IsWideSomeValue};
+ghost use Rattle.sc_simplex.specs.inside.Orders.{IsOrder, IsLexOrder};
+ghost use Rattle.sc_simplex.specs.Orders.{headed};
+ghost use Rattle.sc_simplex.specs.inside.Leaving.{NoneTie, IsBest, IsLeastOrNone};
+ghost use Rattle.sc_simplex.specs.inside.Evidence.{IsWideSomeValue};
 
 use sc_fraction::compare_ratios;
 use sc_rows::{RowSet, WideAt};

@@ -4,9 +4,9 @@ ghost use Rattle.std.specs.Prelude.{◌≡◌, ◌<◌, ◌≤◌, ◌^◌, leng
 ghost use Rattle.sc_basis.specs.Products.{at, IsNonNegative};
 ghost use Rattle.sc_rows.specs.Places.{IsWideBy};
 ghost use Rattle.sc_rows.specs.declared.fault.RowFault.{RowFault as Refusal};
-ghost use Rattle.sc_simplex.specs.Evidence.{IsWideSomeValue};
+ghost use Rattle.sc_simplex.specs.inside.Evidence.{IsWideSomeValue};
 ghost use Rattle.sc_simplex.specs.Optima.{IsOptimum, IsStopped, IsSumOfColumns};
-ghost use Rattle.sc_simplex.specs.Stops.{IsStopBy, IsStopByOracle, IsMadeOf};
+ghost use Rattle.sc_simplex.specs.inside.Stops.{IsStopBy, IsStopByOracle, IsMadeOf};
 
 use crate::state::{State, step};
 use crate::values::values_of;

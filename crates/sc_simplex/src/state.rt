@@ -9,8 +9,8 @@ ghost use Rattle.sc_rows.specs.Places.{IsWideBy};
 ghost use Rattle.sc_simplex.specs.declared.column.Item.TheVariants.{Unit as UnitOf};
 ghost use Rattle.sc_simplex.specs.Oracles.{ImprovesAt};
 ghost use Rattle.sc_simplex.specs.Optima.{no_item};
-ghost use Rattle.sc_simplex.specs.Evidence.{IsWideFor, IsWideTold, speaks_of_column};
-ghost use Rattle.sc_simplex.specs.States.{IsReady, RowsFollow, PricesFollow, IsState, IsNoted};
+ghost use Rattle.sc_simplex.specs.inside.Evidence.{IsWideFor, IsWideTold, speaks_of_column};
+ghost use Rattle.sc_simplex.specs.inside.States.{IsReady, RowsFollow, PricesFollow, IsState, IsNoted};
 
 use crate::leaving::leaving_row;
 use crate::{Column, Columns, Item, KeyPivot, Oracle};

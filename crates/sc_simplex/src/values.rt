@@ -7,7 +7,7 @@ ghost use Rattle.sc_fraction.specs.Frac.{IsQuotient};
 ghost use Rattle.sc_rows.specs.Lines.{row_of, den_of};
 ghost use Rattle.sc_rows.specs.Evidence.{IsWideValue};
 ghost use Rattle.sc_rows.specs.Places.{IsWideBy};
-ghost use Rattle.sc_simplex.specs.Evidence.{IsWideSomeValue};
+ghost use Rattle.sc_simplex.specs.inside.Evidence.{IsWideSomeValue};
 
 use sc_fraction::Frac;
 use sc_rows::{RowFault, RowSet, WideAt};

@@ -46,8 +46,8 @@ use Rattle.sc_solve.specs.Searches.{IsWideSearch}
 use Rattle.sc_solve.specs.Lifts.{IsLift, IsLiftFault}
 use Rattle.sc_solve.specs.ListTables.{AreDistances}
 use Rattle.sc_solve.specs.Solutions.{pivots_of, last_items, IsJournalOf, IsOptimalEnd, ArePartsFrom, ArePartsOf, IsGluedOf, distinct_polygons, IsSolution, certificate_of, IsStopped, IsUsedUp, IsWideAfter, IsWideInLift, HasManyCopies}
-use Rattle.sc_solve.specs.Assembling.{named_pivot, valued, IsMadeOf, IsPartStop}
-use Rattle.sc_solve.specs.Endings.{IsEndingBy, IsEnding, IsEndingOf, ArePolygonKeys, HasPolygons, IsStopOf, IsUnlifted, IsUnglued, IsCertified}
+use Rattle.sc_solve.specs.inside.Assembling.{named_pivot, valued, IsMadeOf, IsPartStop}
+use Rattle.sc_solve.specs.inside.Endings.{IsEndingBy, IsEnding, IsEndingOf, ArePolygonKeys, HasPolygons, IsStopOf, IsUnlifted, IsUnglued, IsCertified}
 use Rattle.sc_solve.specs.declared.assembling.PartStop.{PartStop}
 use Rattle.sc_solve.specs.declared.assembling.PartStop.TheVariants as part_stops
 use Rattle.sc_solve.specs.declared.ending.Ending.{Ending}

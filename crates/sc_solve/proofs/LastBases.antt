@@ -33,7 +33,7 @@ use Rattle.sc_assembly.proofs.Wholes.{size, Divide, common, times_from_divides}
 use Rattle.sc_assembly.proofs.OneMultiple.{values_from_one}
 use Rattle.sc_solve.specs.PolygonColumns.{column_entries, IsPolygonColumn}
 use Rattle.sc_solve.specs.Solutions.{last_basis, IsJournalOf, IsOptimalEnd, exchanged, last_items, pivots_of, ArePartsFrom}
-use Rattle.sc_solve.specs.Assembling.{valued}
+use Rattle.sc_solve.specs.inside.Assembling.{valued}
 use Rattle.sc_solve.specs.EntryLaws.{entry_is}
 use Rattle.sc_solve.proofs.PolygonJournals.{entries_of_items, length-last_items}
 use Rattle.sc_solve.proofs.PartCounts.{times, multiples_from, weighed, weighed_by_rows, column_weighed, sum_weighed}

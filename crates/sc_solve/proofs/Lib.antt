@@ -19,3 +19,4 @@ pub mod Tightness
 pub mod CertificateRanges
 pub mod EndingLaws
 pub mod TryLaws
+pub mod EntrySteps

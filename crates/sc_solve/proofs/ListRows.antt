@@ -8,7 +8,8 @@ use Rattle.sc_theory.specs.Prices.{Tables, entry}
 use Rattle.sc_text.specs.TableLines.{IsEntryInRange}
 use Rattle.sc_certificate.specs.Sizes.{AreTablesOf}
 use Rattle.sc_tables.specs.Squares.{Square, cell}
-use Rattle.sc_solve.specs.ListSteps.{number, IsRowOf, AreRowsOf}
+use Rattle.sc_solve.specs.ListSteps.{number}
+use Rattle.sc_solve.specs.inside.ListSteps.{IsRowOf, AreRowsOf}
 
 by_number : {A : Type 0} (P : A → Type 0) (d : A) (xs : List A) → ((k : ℕ) → k < length xs → P (get_or xs k d)) → AllByRecursion P xs
 by_number P d [] h = tt

@@ -8,7 +8,7 @@ use Rattle.sc_theory.specs.Prices.{Prices, pairs, place_of, pair_price, base_pri
 use Rattle.sc_text.specs.PriceLines.{IsPriceInRange}
 use Rattle.sc_text.specs.TableLines.{IsEntryInRange}
 use Rattle.sc_certificate.specs.Sizes.{IsSmallList}
-use Rattle.sc_prices.specs.Sizes.{IsOfPrices}
+use Rattle.sc_prices.specs.inside.Sizes.{IsOfPrices}
 use Rattle.sc_prices.proofs.Sizes.{no_prices, prices_add, prices_fit}
 use Rattle.sc_tables.specs.Totals.{total_along}
 

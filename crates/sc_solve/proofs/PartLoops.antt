@@ -10,7 +10,8 @@ use Rattle.sc_assembly.specs.declared.counting.PartsFault.{PartsFault}
 use Rattle.sc_assembly.specs.declared.counting.PartsFault.TheVariants as parts_faults
 use Rattle.sc_assembly.specs.Multiples.{AreCounts, IsFaultOf}
 use Rattle.sc_solve.specs.Solutions.{exchanged}
-use Rattle.sc_solve.specs.Assembling.{part_of, valued, IsWithin}
+use Rattle.sc_solve.specs.inside.Assembling.{part_of, valued}
+use Rattle.sc_solve.specs.Assembling.{IsWithin}
 use Rattle.sc_solve.proofs.PolygonJournals.{exchanged-push}
 
 -- the parts of one more item are those of the items before, and its own behind them

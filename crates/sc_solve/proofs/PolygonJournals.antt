@@ -15,7 +15,7 @@ use Rattle.sc_simplex.specs.NamedJournals.{AreNamed, IsLawfulBy, RisesAlong, piv
 use Rattle.sc_certificate.specs.PivotLines.{IsPivotInRange}
 use Rattle.sc_solve.specs.PolygonColumns.{column_entries, IsPolygonColumn}
 use Rattle.sc_solve.specs.Solutions.{pivots_of, last_basis, IsJournalOf, exchanged, last_items}
-use Rattle.sc_solve.specs.Assembling.{named_pivot}
+use Rattle.sc_solve.specs.inside.Assembling.{named_pivot}
 
 -- ---- the journal that is named
 same_pivot : (p : ColumnPivot) (row : ℕ) (entries : Column) → row ≡ p.0 → p.1 ≡ entries → (row, entries) ≡ p

@@ -12,16 +12,16 @@ use Rattle.sc_simplex.specs.Oracles.{ImprovesAt}
 use Rattle.sc_tables.specs.Walks.{WalksAlong, end_of}
 use Rattle.sc_tables.specs.Totals.{total_along, open_total, closed_total, bulk_of, fine_of, IsBelow, IsAtMost}
 use Rattle.sc_tables.specs.Tables.{AllAtLeast, IsPolygonBelow}
-use Rattle.sc_tables.specs.CheapPolygons.{IsWideWalk}
+use Rattle.sc_tables.specs.CheapPolygons.{IsWideWalk, IsTableFault}
 use Rattle.sc_tables.proofs.WalkLaws.{walks_front, walks_rest}
 use Rattle.sc_weight.specs.declared.level.Level.{Level}
 use Rattle.sc_whole.specs.declared.checked.Wide.{Wide as Operation}
 use Rattle.sc_basis.specs.Bases.{Column as Entries}
 use Rattle.sc_rows.specs.Places.{IsWideBy}
-use Rattle.sc_tables.specs.CheapPolygons.{IsTableFault}
 use Rattle.sc_tables.specs.declared.tables.TableFault.{TableFault}
 use Rattle.sc_tables.specs.declared.tables.TableFault.TheVariants.{Wide as TableWide, Memory as TableMemory}
-use Rattle.sc_solve.specs.Searches.{IsWideSearch, MatchCheap, refusal_of_table}
+use Rattle.sc_solve.specs.Searches.{IsWideSearch}
+use Rattle.sc_solve.specs.inside.Searches.{MatchCheap, refusal_of_table}
 use Rattle.sc_solve.specs.PriceLevels.{price_levels, threshold_of}
 use Rattle.sc_solve.specs.PolygonColumns.{column_entries, IsPolygonColumn}
 use Rattle.sc_solve.proofs.PolygonPrices.{improves_from}

@@ -10,7 +10,15 @@ use Rattle.sc_whole.specs.declared.checked.Op.TheVariants.{Sub}
 use Rattle.sc_rows.specs.Places.{spot, IsWide}
 use Rattle.sc_rows.specs.declared.fault.Place.TheVariants.{LiftTurn}
 use Rattle.sc_rows.specs.declared.fault.WideAt.{WideAt}
-use Rattle.sc_solve.specs.Lifts.{IsWideTurned, IsGreatestSize, IsGreatestBefore, IsSizeOfStep}
+use Rattle.sc_solve.specs.Lifts.{IsWideTurned, IsGreatestSize}
+use Rattle.sc_solve.specs.inside.Lifts.{IsSizeOfStep}
+use Rattle.sc_theory.specs.Prices.{price}
+
+-- the greatest size in the first n cells of a square of the positions, row by row
+pub record IsGreatestBefore (c : Chain) (price : ℕ → ℕ → ℤ) (n : ℕ) (size : ℤ) : Type 0 where
+  pub low : (i j : ℕ) → IsStep c i j → i * positions c + j < n → neg_ℤ size ≤ℤ price i j
+  pub high : (i j : ℕ) → IsStep c i j → i * positions c + j < n → price i j ≤ℤ size
+  pub reached : (size ≡ pos 0) ⊎ ((i : ℕ) × (j : ℕ) × IsStep c i j × (size ≡ pos (unsigned_abs (price i j))))
 
 -- at a step the size of the cell is the size of the step's price
 pub size_of_step : (c : Chain) (price : ℕ → ℕ → ℤ) (from to : ℕ) (z size : ℤ) → IsStep c from to → z ≡ price from to → size ≡ pos (unsigned_abs z) → IsSizeOfStep c price from to size
@@ -90,6 +98,7 @@ all_cells c price side n g side_is all before = record {
     square = subst (λ (p : ℕ). p * p ≤ n) side_is all
 
 -- ---- at prices that are the same on the steps
+
 module _ (c : Chain) (f g : ℕ → ℕ → ℤ) (same : (i j : ℕ) → IsStep c i j → f i j ≡ g i j) where
   -- the greatest size of a step's price is the same, and so is what is too wide to be turned
   pub greatest_same : (size : ℤ) → IsGreatestSize c f size → IsGreatestSize c g size

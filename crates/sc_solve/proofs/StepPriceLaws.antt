@@ -23,8 +23,10 @@ use Rattle.sc_tables.specs.StepPrices.{list_at as table_list, pair_levels, base_
 use Rattle.sc_tables.specs.StepFaults.{IsStepFault}
 use Rattle.sc_tables.specs.declared.prices.StepFault.{StepFault}
 use Rattle.sc_tables.specs.declared.prices.StepFault.TheVariants.{Turn, Step, Memory}
-use Rattle.sc_solve.specs.PriceLevels.{row_at, list_at, levels_of, pair_of_row, price_levels}
-use Rattle.sc_solve.specs.Searches.{IsWidePrice, refusal_of_step}
+use Rattle.sc_solve.specs.PriceLevels.{row_at, list_at, price_levels}
+use Rattle.sc_solve.specs.inside.PriceLevels.{levels_of, pair_of_row}
+use Rattle.sc_solve.specs.Searches.{IsWidePrice}
+use Rattle.sc_solve.specs.inside.Searches.{refusal_of_step}
 
 numbers_along : (p : PriceRows) (level : Level) (ks : List ℕ) → map (λ w. at_level level (levels_of w)) (map (pair_of_row p) ks) ≡ map (entries_of (row_at p level)) ks
 numbers_along p level [] = refl

@@ -12,7 +12,7 @@ use Rattle.sc_simplex.specs.WideOperations.{IsWideOperation}
 use Rattle.sc_solve.specs.PolygonColumns.{IsPolygonColumn}
 use Rattle.sc_solve.specs.Searches.{IsWideSearch}
 use Rattle.sc_solve.specs.Solutions.{pivots_of, IsJournalOf, IsSolution, IsStopped, IsUsedUp, IsWideInLift}
-use Rattle.sc_solve.specs.Endings.{is_budget}
+use Rattle.sc_solve.specs.inside.Endings.{is_budget}
 use Rattle.sc_solve.specs.declared.solution.Solution.{Solution}
 use Rattle.sc_solve.specs.declared.solution.SolveFault.{SolveFault}
 use Rattle.sc_solve.specs.declared.solution.SolveFault.TheVariants.{Budget, Wide, Sides, Memory}

@@ -1,8 +1,6 @@
 -- The entries of a list of numbers that aren't 0.
-use Rattle.std.proofs.Common.{◌≡◌, ℕ, zero, suc, ◌+◌, ◌<◌, ◌≤◌, Bool, true, false, not, [], ◌∷◌, map, eqb, cond, ℤ, pos, arith, inl, inr, refl, sym, ap, subst, ◌∙◌, ◌≢◌, ◌++◌}
+use Rattle.std.proofs.Common.{◌≡◌, ℕ, zero, suc, ◌+◌, ◌<◌, ◌≤◌, Bool, true, false, not, ◌∷◌, map, eqb, ℤ, pos, arith, inl, inr, refl, sym, subst, ◌∙◌}
 use Rattle.std.specs.List.{filter, range_with_len}
-use Rattle.std.proofs.lemmas.List.{append-nil}
-use Rattle.std.proofs.lemmas.List.FromFn.{filter_of_map_range_with_len_more}
 use Rattle.std.specs.Ordering.{int_eq}
 use Rattle.std.proofs.lemmas.Bool.{cases_Bool, cases_eq, eq-eqb, ne_eqb, cond-true, cond-false}
 use Rattle.std.proofs.lemmas.Bool.Decides.{Decides-int_eq}
@@ -73,27 +71,3 @@ entries_ascend x r = ascending_from x r 0 r 0 (omega arith) (omega arith)
 
 pub entry_is : (x : ℕ → ℤ) (r k : ℕ) → k < r → entry_of (entries_by x r) k ≡ x k
 entry_is x r k h = entry_from x 0 r k (omega arith) (omega arith)
-
--- ---- one number more
-entry_test : (n : ℕ) (z : ℤ) → z ≢ pos 0 → is_entry (n, z) ≡ true
-entry_test n z some = by (int_eq z (pos 0)) refl
-  where
-    by : (b : Bool) → int_eq z (pos 0) ≡ b → not b ≡ true
-    by true e = absurd (some ((Decides-int_eq z (pos 0)).0 e))
-    by false e = refl
-
-more : (x : ℕ → ℤ) (n : ℕ) → entries_by x (n + 1) ≡ entries_by x n ++ cond (is_entry (n, x n)) ((n, x n) ∷ []) []
-more x n = filter_of_map_range_with_len_more is_entry (λ (k : ℕ). (k, x k)) 0 n n (omega arith)
-
-pub entries_more : (x : ℕ → ℤ) (n : ℕ) (z : ℤ) → z ≡ x n → z ≢ pos 0 → entries_by x (n + 1) ≡ entries_by x n ++ (n, z) ∷ []
-entries_more x n z e some =
-    more x n
-    ∙ ap (λ (es : Entries). entries_by x n ++ es)
-    (cond-true (is_entry (n, x n)) ((n, x n) ∷ []) [] (ap (λ (y : ℤ). is_entry (n, y)) (sym e) ∙ entry_test n z some) ∙ ap (λ (y : ℤ). (n, y) ∷ []) (sym e))
-
-pub entries_same : (x : ℕ → ℤ) (n : ℕ) (z : ℤ) → z ≡ x n → z ≡ pos 0 → entries_by x (n + 1) ≡ entries_by x n
-entries_same x n z e none =
-    more x n
-    ∙ ap (λ (es : Entries). entries_by x n ++ es)
-    (cond-false (is_entry (n, x n)) ((n, x n) ∷ []) [] (ap (λ (y : ℤ). is_entry (n, y)) (sym e ∙ none)))
-    ∙ append-nil (entries_by x n)

@@ -1,5 +1,4 @@
 pub mod PriceLevels
-pub mod StepCounts
 pub mod PolygonColumns
 pub mod Searches
 pub mod Lifts
@@ -10,4 +9,4 @@ pub mod ListSteps
 pub mod ListTables
 pub mod Solutions
 pub mod Assembling
-pub mod Endings
+pub mod inside

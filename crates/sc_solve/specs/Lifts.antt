@@ -14,12 +14,9 @@ use Rattle.sc_rows.specs.Places.{spot, wide_at, IsWide}
 use Rattle.sc_rows.specs.declared.fault.Place.TheVariants.{LiftTurn, LiftMul, LiftAdd, LiftBulk, LiftSum, LiftSize}
 use Rattle.sc_rows.specs.declared.fault.WideAt.{WideAt}
 use Rattle.sc_rows.specs.declared.prices.PriceRows.{PriceRows}
-use Rattle.sc_weight.specs.declared.pair.Pair.{Pair}
-use Rattle.sc_tables.specs.Squares.{Square}
-use Rattle.sc_tables.specs.StepPrices.{price_in}
 use Rattle.sc_solve.specs.declared.lifting.LiftFault.{LiftFault}
 use Rattle.sc_solve.specs.declared.lifting.LiftFault.TheVariants.{Wide, Memory}
-use Rattle.sc_solve.specs.PriceLevels.{levels_of, list_at, HaveNoBulk, lifted_list}
+use Rattle.sc_solve.specs.PriceLevels.{list_at, HaveNoBulk, lifted_list}
 use Rattle.sc_solve.specs.Searches.{IsWidePrice}
 
 -- the greatest size of the price of a step, and 0 where there is no step
@@ -49,6 +46,7 @@ pub record IsLift (c : Chain) (p : PriceRows) (list : Prices) : Type 0 where
   pub list_is : list ≡ lifted_list c p factor
 
 -- ---- what doesn't fit
+
 -- 0 minus the price of a step
 pub record IsWideTurned (c : Chain) (price : ℕ → ℕ → ℤ) (w : WideAt) : Type 0 where
   pub from : ℕ
@@ -111,20 +109,3 @@ IsWideLift c p w = IsWideBefore c p w ⊎ IsWideLifted c p w ⊎ IsLargeScale c 
 abbrev pub IsLiftFault : Chain → PriceRows → LiftFault → Type 0
 IsLiftFault c p (Wide w) = IsWideLift c p w
 IsLiftFault c p Memory = Unit {0}
-
--- ---- on the way
--- the fine prices of steps in a table
-abbrev pub fine_in : Square Pair → ℕ → ℕ → ℤ
-fine_in t i j = (price_in levels_of t i j).fine
-
--- the size of the price where there is a step, and else 0
-pub record IsSizeOfStep (c : Chain) (price : ℕ → ℕ → ℤ) (from to : ℕ) (size : ℤ) : Type 0 where
-  pub on : IsStep c from to → size ≡ pos (unsigned_abs (price from to))
-  pub off : ¬ IsStep c from to → size ≡ pos 0
-  pub decided : IsStep c from to ⊎ (¬ IsStep c from to)
-
--- the greatest size in the first n cells of a square of the positions, row by row
-pub record IsGreatestBefore (c : Chain) (price : ℕ → ℕ → ℤ) (n : ℕ) (size : ℤ) : Type 0 where
-  pub low : (i j : ℕ) → IsStep c i j → i * positions c + j < n → neg_ℤ size ≤ℤ price i j
-  pub high : (i j : ℕ) → IsStep c i j → i * positions c + j < n → price i j ≤ℤ size
-  pub reached : (size ≡ pos 0) ⊎ ((i : ℕ) × (j : ℕ) × IsStep c i j × (size ≡ pos (unsigned_abs (price i j))))

@@ -5,7 +5,6 @@ use Rattle.sc_theory.specs.Chains.{Chain}
 use Rattle.sc_theory.specs.Prices.{Prices, pairs, price}
 use Rattle.sc_weight.specs.Levels.{Levels}
 use Rattle.sc_weight.specs.declared.level.Level.{Level}
-use Rattle.sc_weight.specs.declared.pair.Pair.{Pair}
 use Rattle.sc_weight.specs.declared.level.Level.TheVariants.{Bulk, Fine}
 use Rattle.sc_rows.specs.Standing.{entries_of}
 use Rattle.sc_rows.specs.declared.prices.PriceRow.{PriceRow}
@@ -31,13 +30,6 @@ list_at c p level = list_by c (entries_of (row_at p level)) (row_at p level).sca
 -- the price of the step from i to j at both levels
 abbrev pub price_levels : Chain → PriceRows → ℕ → ℕ → Levels
 price_levels c p i j = record { bulk = price c (list_at c p Bulk) i j; fine = price c (list_at c p Fine) i j }
-
--- the two numbers of a pair as levels, and the prices of a row at both levels as a pair
-abbrev pub levels_of : Pair → Levels
-levels_of w = record { bulk = w.bulk; fine = w.fine }
-
-abbrev pub pair_of_row : PriceRows → ℕ → Pair
-pair_of_row p k = record { bulk = entries_of p.bulk k; fine = entries_of p.fine k }
 
 -- 0 in bulk, and the fine scale: what each closed walk costs at least where the basis is optimal
 abbrev pub threshold_of : PriceRows → Levels

@@ -1,26 +1,18 @@
 -- What the prices of steps and the totals of walks show that don't fit, for given prices of a basis.
-use Rattle.std.specs.Prelude.{◌≡◌, ◌⊎◌, ℕ, ◌<◌, List, length, Option, Some, None, pos}
+use Rattle.std.specs.Prelude.{◌≡◌, ◌⊎◌, ℕ, ◌<◌, List, length, Some, None, pos}
 use Rattle.std.specs.Option.{option_map}
 use Rattle.std.specs.Vec.{vec_items}
 use Rattle.sc_theory.specs.Chains.{Chain, succ}
 use Rattle.sc_theory.specs.Walks.{IsStep}
 use Rattle.sc_theory.specs.Prices.{pairs, pair_price, base_price}
-use Rattle.sc_weight.specs.Levels.{Levels}
 use Rattle.sc_weight.specs.declared.level.Level.{Level}
 use Rattle.sc_whole.specs.declared.checked.Op.TheVariants.{Add, Sub}
 use Rattle.sc_rows.specs.Standing.{entries_of}
-use Rattle.sc_rows.specs.Places.{spot, wide_at, IsWide}
+use Rattle.sc_rows.specs.Places.{spot, IsWide}
 use Rattle.sc_rows.specs.declared.fault.Place.TheVariants.{TurnPrice, StepPrice, WalkSum}
 use Rattle.sc_rows.specs.declared.fault.WideAt.{WideAt}
-use Rattle.sc_rows.specs.declared.fault.RowFault.{RowFault}
-use Rattle.sc_rows.specs.declared.fault.RowFault.TheVariants.{Wide as RowWide, Memory as RowMemory}
 use Rattle.sc_rows.specs.declared.prices.PriceRows.{PriceRows}
 use Rattle.sc_tables.specs.CheapPolygons.{IsWideWalk}
-use Rattle.sc_tables.specs.Tables.{IsPolygonBelow, AllAtLeast}
-use Rattle.sc_tables.specs.declared.tables.TableFault.{TableFault}
-use Rattle.sc_tables.specs.declared.tables.TableFault.TheVariants.{Wide as TableWide, Memory as TableMemory}
-use Rattle.sc_tables.specs.declared.prices.StepFault.{StepFault}
-use Rattle.sc_tables.specs.declared.prices.StepFault.TheVariants.{Turn, Step, Memory}
 use Rattle.sc_solve.specs.PriceLevels.{row_at, list_at, price_levels}
 
 -- 0 minus the price of a pair
@@ -57,27 +49,3 @@ IsWidePrice c p w = IsWideTurn c p w ⊎ IsWideStep c p w
 -- what a search for cheap polygons may meet
 abbrev pub IsWideSearch : Chain → PriceRows → WideAt → Type 0
 IsWideSearch c p w = IsWidePrice c p w ⊎ IsWideTotal c p w
-
--- ---- how refusals are told
-abbrev pub refusal_of_step : StepFault → RowFault
-refusal_of_step (Turn row level wide) = RowWide (wide_at (spot (TurnPrice level) row 0 None) wide)
-refusal_of_step (Step from to level wide) = RowWide (wide_at (spot (StepPrice level) from to None) wide)
-refusal_of_step Memory = RowMemory
-
-abbrev pub refusal_of_table : TableFault → RowFault
-refusal_of_table (TableWide walk level wide) =
-    RowWide (record {
-      place = WalkSum level;
-      first = 0;
-      second = 0;
-      wide = wide;
-      walk = Some walk;
-      entering = None;
-      leaving = None;
-    })
-refusal_of_table TableMemory = RowMemory
-
--- the polygon is below the threshold, or where there is none every closed walk is at least that
-abbrev pub MatchCheap : Chain → (ℕ → ℕ → Levels) → Levels → Option (List ℕ) → Type 0
-MatchCheap c price threshold (Some walk) = IsPolygonBelow c price threshold walk
-MatchCheap c price threshold None = AllAtLeast c price threshold

@@ -4,7 +4,8 @@ ghost use Rattle.std.specs.Prelude.{◌≡◌, ◌<◌, ◌≤◌, ◌^◌, None
 ghost use Rattle.std.specs.List.{AllByRecursion};
 ghost use Rattle.sc_theory.specs.Columns.{rows};
 ghost use Rattle.sc_solve.specs.Solutions.{exchanged, last_items};
-ghost use Rattle.sc_solve.specs.Assembling.{part_of, valued, IsMadeOf, IsPartStop, IsWithin, IsTold};
+ghost use Rattle.sc_solve.specs.inside.Assembling.{part_of, valued, IsMadeOf, IsPartStop, IsTold};
+ghost use Rattle.sc_solve.specs.Assembling.{IsWithin};
 ghost use Rattle.sc_assembly.specs.Multiples.{AreValues, IsFaultOf};
 
 use sc_assembly::{Part, PartsFault, glue, multiples};

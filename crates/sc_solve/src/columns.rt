@@ -7,7 +7,7 @@ ghost use Rattle.sc_theory.specs.Prices.{pairs as pairs_of};
 ghost use Rattle.sc_theory.specs.Columns.{rows, column, right_side, steps_of, passes};
 ghost use Rattle.sc_chain.specs.declared.limits.TheConstants.{MAX_POSITIONS};
 ghost use Rattle.sc_solve.specs.PolygonColumns.{column_entries, IsPolygonColumn};
-ghost use Rattle.sc_solve.specs.StepCounts.{step_between};
+ghost use Rattle.sc_solve.specs.inside.StepCounts.{step_between};
 
 use sc_chain::{Chain, Pairs, Polygon};
 use sc_simplex::Column;

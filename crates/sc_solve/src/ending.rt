@@ -9,7 +9,7 @@ ghost use Rattle.sc_simplex.specs.Optima.{IsOptimum, IsStopped as IsSimplexStopp
 ghost use Rattle.sc_solve.specs.PolygonColumns.{IsPolygonColumn};
 ghost use Rattle.sc_solve.specs.Searches.{IsWideSearch};
 ghost use Rattle.sc_solve.specs.Solutions.{IsStopped};
-ghost use Rattle.sc_solve.specs.Endings.{IsEnding, IsEndingOf, ArePolygonKeys, HasPolygons, IsStopOf};
+ghost use Rattle.sc_solve.specs.inside.Endings.{IsEnding, IsEndingOf, ArePolygonKeys, HasPolygons, IsStopOf};
 
 use crate::columns::right_side_of;
 use crate::journals::{polygon_journal, polygon_of};

@@ -3,7 +3,7 @@
 ghost use Rattle.std.specs.Prelude.{◌≡◌, map, IfOk};
 ghost use Rattle.std.specs.List.{AllByRecursion};
 ghost use Rattle.sc_theory.specs.Walks.{IsPolygon};
-ghost use Rattle.sc_solve.specs.Assembling.{named_pivot};
+ghost use Rattle.sc_solve.specs.inside.Assembling.{named_pivot};
 
 use sc_chain::{Chain, Pivot, Polygon};
 use sc_simplex::KeyPivot;

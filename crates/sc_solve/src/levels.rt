@@ -9,8 +9,10 @@ ghost use Rattle.sc_theory.specs.Columns.{rows};
 ghost use Rattle.sc_rows.specs.Standing.{ArePrices};
 ghost use Rattle.sc_rows.specs.Places.{spot, wide_at, IsWideBy};
 ghost use Rattle.sc_tables.specs.StepPrices.{AreForChain, price_in};
-ghost use Rattle.sc_solve.specs.PriceLevels.{price_levels, levels_of, pair_of_row};
-ghost use Rattle.sc_solve.specs.Searches.{IsWidePrice, refusal_of_step};
+ghost use Rattle.sc_solve.specs.PriceLevels.{price_levels};
+ghost use Rattle.sc_solve.specs.inside.PriceLevels.{levels_of, pair_of_row};
+ghost use Rattle.sc_solve.specs.Searches.{IsWidePrice};
+ghost use Rattle.sc_solve.specs.inside.Searches.{refusal_of_step};
 
 use sc_chain::{Chain, Pairs};
 use sc_rows::{Place, PriceRows, RowFault, WideAt};

@@ -15,7 +15,8 @@ ghost use Rattle.sc_simplex.specs.Oracles.{NoneImproves};
 ghost use Rattle.sc_tables.specs.StepPrices.{AreForChain};
 ghost use Rattle.sc_solve.specs.PriceLevels.{lifted_price, HaveNoBulk};
 ghost use Rattle.sc_solve.specs.PolygonColumns.{IsPolygonColumn};
-ghost use Rattle.sc_solve.specs.Lifts.{fine_in, IsGreatestSize, IsSizeOfStep, IsWideTurned, IsFullFactor, IsFactor, IsLift, IsWideBefore, IsWideSum, IsWideNumber, IsWideRow, IsWideLift, IsLiftFault, IsLargeAt};
+ghost use Rattle.sc_solve.specs.inside.Lifts.{fine_in, IsSizeOfStep};
+ghost use Rattle.sc_solve.specs.Lifts.{IsGreatestSize, IsWideTurned, IsFullFactor, IsFactor, IsLift, IsWideBefore, IsWideSum, IsWideNumber, IsWideRow, IsWideLift, IsLiftFault, IsLargeAt};
 
 use crate::levels::{pair_of_row, refused, step_prices};
 use sc_certificate::PriceList;

@@ -14,9 +14,11 @@ ghost use Rattle.sc_tables.specs.CheapPolygons.{IsTableFault};
 ghost use Rattle.sc_tables.specs.StepPrices.{AreForChain, price_in};
 ghost use Rattle.sc_tables.specs.Tables.{IsPolygonBelow, AllAtLeast};
 ghost use Rattle.sc_tables.specs.Totals.{IsBelow};
-ghost use Rattle.sc_solve.specs.PriceLevels.{levels_of, price_levels, threshold_of};
+ghost use Rattle.sc_solve.specs.inside.PriceLevels.{levels_of};
+ghost use Rattle.sc_solve.specs.PriceLevels.{price_levels, threshold_of};
 ghost use Rattle.sc_solve.specs.PolygonColumns.{IsPolygonColumn};
-ghost use Rattle.sc_solve.specs.Searches.{IsWideSearch, MatchCheap, refusal_of_table};
+ghost use Rattle.sc_solve.specs.Searches.{IsWideSearch};
+ghost use Rattle.sc_solve.specs.inside.Searches.{MatchCheap, refusal_of_table};
 
 use crate::columns::column_of;
 use crate::levels::step_prices;

@@ -12,7 +12,7 @@ ghost use Rattle.sc_certificate.specs.Sizes.{IsSmallList, AreSmallTables, FitsCo
 ghost use Rattle.sc_prices.specs.Conditions.{AllHold};
 ghost use Rattle.sc_solve.specs.Lifts.{IsLift};
 ghost use Rattle.sc_solve.specs.Solutions.{IsSolution, IsStopped, certificate_of};
-ghost use Rattle.sc_solve.specs.Endings.{IsEnding, IsCertified, IsUnlifted, IsUnglued};
+ghost use Rattle.sc_solve.specs.inside.Endings.{IsEnding, IsCertified, IsUnlifted, IsUnglued};
 
 use crate::assembling::{PartStop, surface_of};
 use crate::ending::{Ending, check_chain};

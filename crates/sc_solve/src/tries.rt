@@ -7,7 +7,7 @@ ghost use Rattle.sc_text.specs.Surfaces.{IsChainInRange};
 ghost use Rattle.sc_text.specs.declared.limits.TheConstants.{MAX_PIVOTS};
 ghost use Rattle.sc_certificate.specs.Certificates.{IsCertificateInRange};
 ghost use Rattle.sc_solve.specs.Solutions.{IsSolution, IsStopped, certificate_of};
-ghost use Rattle.sc_solve.specs.Endings.{IsEnding, is_budget};
+ghost use Rattle.sc_solve.specs.inside.Endings.{IsEnding, is_budget};
 
 use crate::ending::{Ending, optimal_ending};
 use crate::solving::solution_of;

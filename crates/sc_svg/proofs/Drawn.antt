@@ -14,7 +14,7 @@ use Rattle.sc_shape.proofs.ListsBelow.{list_passes, list_fails}
 use Rattle.sc_shape.proofs.OrbitLeasts.{iterate_below}
 use Rattle.sc_svg.specs.Layout.{orbit_size, order_below}
 use Rattle.sc_svg.specs.Drawings.{joined, head_line, vertex_line, edge_line, letter_line, last_line, last_side, base, drawing, IsDrawing}
-use Rattle.sc_svg.specs.LaidOut.{AreLaidBelow, AreLeastOfOrbits}
+use Rattle.sc_svg.specs.inside.LaidOut.{AreLaidBelow, AreLeastOfOrbits}
 
 append_assoc : (xs ys zs : List ℕ) → (xs ++ ys) ++ zs ≡ xs ++ (ys ++ zs)
 append_assoc [] ys zs = refl

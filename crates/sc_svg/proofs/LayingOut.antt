@@ -12,7 +12,7 @@ use Rattle.sc_algebra.proofs.Cycles.{iterate-last}
 use Rattle.sc_shape.specs.Classes.{entry}
 use Rattle.sc_shape.proofs.OrbitLeasts.{iterate_below}
 use Rattle.sc_svg.specs.Layout.{is_apart, orbit_size, sides_along, order_below}
-use Rattle.sc_svg.specs.LaidOut.{x_in_orbit, AreLaidBelow, IsLaidTo, LaysOrbit}
+use Rattle.sc_svg.specs.inside.LaidOut.{x_in_orbit, AreLaidBelow, IsLaidTo, LaysOrbit}
 use Rattle.sc_svg.proofs.Orbits.{orbits_apart, apart_next, iterates_apart, size_is, length-along, along_last, order_passes, order_fails}
 
 append_assoc : (xs ys zs : List ℕ) → (xs ++ ys) ++ zs ≡ xs ++ (ys ++ zs)

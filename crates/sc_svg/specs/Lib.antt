@@ -1,7 +1,5 @@
 pub mod Layout
 pub mod Drawings
-pub mod Pieces
-pub mod LaidOut
 pub mod Points
-pub mod Extents
 pub mod Fans
+pub mod inside

@@ -2,7 +2,7 @@
 
 ghost use Rattle.std.specs.Prelude.{◌≡◌, ◌↔◌, ◌*◌, ◌<◌, ◌≤◌, ◌^◌, IsTrue, unsigned_abs};
 ghost use Rattle.sc_svg.specs.Fans.{breadth, has_point, size_of, IsGreatest};
-ghost use Rattle.sc_svg.specs.Extents.{IsBounded};
+ghost use Rattle.sc_svg.specs.inside.Extents.{IsBounded};
 
 use crate::spot::Spot;
 

@@ -2,7 +2,7 @@
 
 ghost use Rattle.std.specs.Prelude.{◌≡◌, ◌*◌, ◌<◌, ◌++◌, true, OnOk, IfOk, unsigned_abs};
 ghost use Rattle.sc_svg.specs.Fans.{has_point, point_of, arrow_of, line_of, both_lines, ray_lines, edge_lines, edges_of, IsGreatest, IsFanDrawing};
-ghost use Rattle.sc_svg.specs.Extents.{IsBounded};
+ghost use Rattle.sc_svg.specs.inside.Extents.{IsBounded};
 ghost use Rattle.sc_svg.specs.Points.{IsWithin};
 
 use crate::extent::{Extent, breadth_of, greatest_of, is_pointed};

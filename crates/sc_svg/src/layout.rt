@@ -4,8 +4,8 @@ ghost use Rattle.std.specs.Prelude.{◌≡◌, ℕ, ◌+◌, ◌<◌, ◌≤◌,
 ghost use Rattle.sc_algebra.specs.Sums.{count_below};
 ghost use Rattle.sc_algebra.specs.Permutations.{is_least_for};
 ghost use Rattle.sc_theory.specs.Fatgraphs.{turn, vertices};
-ghost use Rattle.sc_fatgraph.specs.Orbits.{IsRibbon};
-ghost use Rattle.sc_svg.specs.LaidOut.{AreLaidBelow, IsLaidTo, LaysOrbit, AreLeastOfOrbits};
+ghost use Rattle.sc_fatgraph.specs.inside.Orbits.{IsRibbon};
+ghost use Rattle.sc_svg.specs.inside.LaidOut.{AreLaidBelow, IsLaidTo, LaysOrbit, AreLeastOfOrbits};
 
 use sc_fatgraph::limits::MAX_SIDES;
 use sc_fatgraph::{Fatgraph, Side};

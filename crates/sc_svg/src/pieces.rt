@@ -2,7 +2,7 @@
 
 ghost use Rattle.std.specs.Prelude.{◌≡◌, ◌++◌, OnOk};
 ghost use Rattle.std.specs.List.{flat_map};
-ghost use Rattle.sc_svg.specs.Pieces.{piece_text};
+ghost use Rattle.sc_svg.specs.inside.Pieces.{piece_text};
 
 use sc_whole::print_decimal;
 use std::alloc::AllocError;

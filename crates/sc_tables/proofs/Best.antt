@@ -9,7 +9,8 @@ use Rattle.sc_tables.specs.declared.search.Node.{Node}
 use Rattle.sc_tables.specs.declared.search.Candidate.{Candidate}
 use Rattle.sc_tables.specs.declared.search.Stop.{Stop}
 use Rattle.sc_tables.specs.declared.search.Stop.TheVariants.{Wide, Memory}
-use Rattle.sc_tables.specs.Searches.{IsCandidate, HasNoStep, Under, Covers, IsBest, IsStop, Closes, AllReach}
+use Rattle.sc_tables.specs.inside.Searches.{IsCandidate, HasNoStep, IsBest, IsStop, Closes, AllReach}
+use Rattle.sc_tables.specs.Searches.{Under, Covers}
 use Rattle.sc_tables.proofs.Order.{at_most-trans}
 
 -- an option holds one item

@@ -5,7 +5,8 @@ use Rattle.sc_tables.specs.Squares.{Square}
 use Rattle.sc_tables.specs.Totals.{IsBelow, IsAtMost}
 use Rattle.sc_tables.specs.declared.search.Node.{Node}
 use Rattle.sc_tables.specs.declared.search.Candidate.{Candidate}
-use Rattle.sc_tables.specs.Searches.{ArePlaced, IsCandidate, Covers, Extends, IsGrowing, Grows, IsEnd, Lower, IsNext}
+use Rattle.sc_tables.specs.inside.Searches.{ArePlaced, IsCandidate, Extends, IsGrowing, Grows}
+use Rattle.sc_tables.specs.Searches.{Covers, IsEnd, Lower, IsNext}
 use Rattle.sc_tables.proofs.Order.{at_most-refl, at_most-trans, at_most_from_below}
 use Rattle.sc_tables.proofs.Best.{same_item}
 

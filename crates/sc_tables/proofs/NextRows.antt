@@ -6,9 +6,17 @@ use Rattle.std.proofs.lemmas.List.{get_or_append_left}
 use Rattle.sc_weight.specs.Levels.{Levels}
 use Rattle.sc_tables.specs.Squares.{Square}
 use Rattle.sc_tables.specs.declared.search.Node.{Node}
-use Rattle.sc_tables.specs.Searches.{IsGrowing, Grows, IsEnd, AreEnds, IsNext, AreNextBelow}
+use Rattle.sc_tables.specs.inside.Searches.{IsGrowing, Grows, AreEnds}
+use Rattle.sc_tables.specs.Searches.{IsEnd, IsNext}
 use Rattle.sc_tables.proofs.Best.{same_item}
 use Rattle.sc_tables.proofs.Growing.{grows-trans, end-grows, next-grows}
+
+-- the entries of the first n positions after a round that began with the walks old
+pub record AreNextBelow {W : Type 0} (levels : W → Levels) (t : Square W) (old nodes : List (Node W)) (fresh s steps : ℕ) (row next : List (Option ℕ)) (n : ℕ) : Type 0 where
+  pub growing : IsGrowing levels t s steps (length old) nodes
+  pub grows : Grows old nodes
+  pub len : length next ≡ n
+  pub entry : (j : ℕ) → j < n → IsNext levels t nodes fresh (length old) s j (get_or row j None) (get_or next j None)
 
 -- an entry names one of the first walks
 pub end_below : {W : Type 0} (nodes : List (Node W)) (end j : ℕ) (o : Option ℕ) (n : ℕ) → IsEnd nodes end j o → o ≡ Some n → n < end

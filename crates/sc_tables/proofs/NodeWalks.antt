@@ -9,7 +9,7 @@ use Rattle.sc_tables.specs.Walks.{WalksAlong, end_of, LeadsTo}
 use Rattle.sc_tables.specs.Totals.{open_total}
 use Rattle.sc_tables.specs.StepPrices.{AreForChain, price_in}
 use Rattle.sc_tables.specs.declared.search.Node.{Node}
-use Rattle.sc_tables.specs.Searches.{AreWalks, Extends}
+use Rattle.sc_tables.specs.inside.Searches.{AreWalks, Extends}
 use Rattle.sc_tables.proofs.WalkLaws.{walks_front, walks_rest, end_of-append}
 use Rattle.sc_tables.proofs.Repeats.{all_front, all_rest}
 use Rattle.sc_tables.proofs.LeastTotals.{leads-step, open_total-step, stays}

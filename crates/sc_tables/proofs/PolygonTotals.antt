@@ -16,7 +16,8 @@ use Rattle.sc_tables.specs.Walks.{WalksAlong, end_of}
 use Rattle.sc_tables.specs.Totals.{bulk_of, fine_of, open_total, closed_total, IsBelow, IsAtMost}
 use Rattle.sc_tables.specs.Tables.{IsPolygonBelow}
 use Rattle.sc_tables.specs.Splits.{HaveStepsOf}
-use Rattle.sc_tables.specs.CheapPolygons.{round, total_after, IsWideWalk, IsClosedBelow}
+use Rattle.sc_tables.specs.CheapPolygons.{round, IsWideWalk}
+use Rattle.sc_tables.specs.inside.CheapPolygons.{total_after, IsClosedBelow}
 use Rattle.sc_tables.proofs.Order.{threshold_sum, at_most_below}
 use Rattle.sc_tables.proofs.WalkLaws.{walks-append, walks_out, walks_front, last_step, closed_inside}
 use Rattle.sc_tables.proofs.Repeats.{simple_is_short}

@@ -14,17 +14,34 @@ use Rattle.sc_tables.specs.Walks.{WalksAlong, end_of}
 use Rattle.sc_tables.specs.Totals.{open_total, closed_total, IsBelow}
 use Rattle.sc_tables.specs.StepPrices.{AreForChain, price_in}
 use Rattle.sc_tables.specs.declared.search.Node.{Node}
-use Rattle.sc_tables.specs.Searches.{AreWalks, Extends, Closes, IsWideAt}
-use Rattle.sc_tables.specs.Trails.{ReadsTo, AreLinked, GoesTo, IsReadTo}
-use Rattle.sc_tables.specs.States.{StopsWithin}
+use Rattle.sc_tables.specs.inside.Searches.{AreWalks, Extends, Closes, IsWideAt}
+use Rattle.sc_tables.specs.inside.Trails.{ReadsTo, AreLinked}
+use Rattle.sc_tables.specs.inside.States.{StopsWithin}
 use Rattle.sc_tables.specs.declared.search.Stop.{Stop}
 use Rattle.sc_tables.specs.declared.search.Stop.TheVariants.{Wide, Memory}
 use Rattle.sc_tables.specs.declared.tables.TableFault.{TableFault}
-use Rattle.sc_tables.specs.CheapPolygons.{IsWideWalk, IsClosedBelow, IsTableFault, NamesNode, ShowsStop}
+use Rattle.sc_tables.specs.CheapPolygons.{IsWideWalk, IsTableFault}
+use Rattle.sc_tables.specs.inside.CheapPolygons.{IsClosedBelow, NamesNode, ShowsStop}
 use Rattle.sc_tables.proofs.WalkLaws.{walks-append, walks_back}
 use Rattle.sc_tables.proofs.LeastTotals.{closed_total-back}
 use Rattle.sc_tables.proofs.Best.{same_item}
 use Rattle.sc_tables.proofs.NodeWalks.{price_at}
+use Rattle.std.specs.Prelude.{◌≢◌, ◌+◌, length}
+use Rattle.std.specs.List.{AllByRecursion}
+
+-- the walk of the node x is that of the node y and the list behind it
+pub record GoesTo {W : Type 0} (levels : W → Levels) (c : Chain) (t : Square W) (s : ℕ) (y x : Node W) (rest : List ℕ) : Type 0 where
+  pub walks : WalksAlong c y.place rest
+  pub away : AllByRecursion (λ i. s ≢ i) rest
+  pub ends : end_of y.place rest ≡ x.place
+  pub total : levels_sum (levels y.total) (open_total (price_in levels t) y.place rest) ≡ levels x.total
+  pub few : y.steps + length rest ≤ x.steps
+
+-- read back from the node n to the node m
+pub record IsReadTo {W : Type 0} (levels : W → Levels) (nodes : List (Node W)) (n m : ℕ) (back : List ℕ) : Type 0 where
+  pub inside : m < length nodes
+  pub goes : (c : Chain) (t : Square W) (s most : ℕ) (x y : Node W) → AreForChain c t → AreWalks levels t s most nodes → slice_get nodes n ≡ Some x → slice_get nodes m ≡ Some y →
+      GoesTo levels c t s y x (reverse back)
 
 -- the nodes of a search can be read back: each but the first one comes after the one before it
 pub linked_from : {W : Type 0} (levels : W → Levels) (t : Square W) (s most : ℕ) (nodes : List (Node W)) → t.side ≤ 64 → most ≤ 64 → AreWalks levels t s most nodes → AreLinked nodes
@@ -128,6 +145,7 @@ module _ {W : Type 0} (levels : W → Levels) where
       }
 
 -- ---- the fault of a stop
+
 module _ {W : Type 0} (levels : W → Levels) (t : Square W) (nodes : List (Node W)) where
   -- a stop of a search names a node and a position
   pub names_node : (most : ℕ) (stop : Stop) → t.side ≤ 64 → StopsWithin levels t nodes most stop → NamesNode nodes stop

@@ -8,13 +8,21 @@ use Rattle.sc_weight.specs.Levels.{Levels, zero_levels, levels_sum, levels_cmp}
 use Rattle.sc_tables.specs.Walks.{end_of, LeadsTo}
 use Rattle.sc_tables.specs.Totals.{open_total, closed_total, IsBelow, IsAtMost}
 use Rattle.sc_tables.specs.Tables.{AllAtLeast, IsPolygonBelow, IsLeastTotal, AreLeastTotals, VouchFor}
-use Rattle.sc_tables.specs.Rows.{IsSearched}
 use Rattle.sc_tables.proofs.Order.{at_most-trans, at_most_from_below}
 use Rattle.sc_tables.proofs.WalkLaws.{walks_out, last_step, closed_inside}
 use Rattle.sc_tables.proofs.Repeats.{simple_is_short}
 use Rattle.sc_tables.proofs.Polygons.{polygons_decide}
 use Rattle.sc_tables.proofs.ShortWalks.{short_suffices}
 use Rattle.sc_tables.proofs.LeastTotals.{closed_total-back, vouches}
+
+-- the entries are totals of walks from s that don't come back; none of such walks of fewer steps than there are positions
+-- has less, and none of them comes back to s by a further step for less than the threshold
+pub record IsSearched (c : Chain) (price : ℕ → ℕ → Levels) (threshold : Levels) (s : ℕ) (row : ℕ → Option Levels) : Type 0 where
+  pub sound : (j : ℕ) (a : Levels) → j < positions c → row j ≡ Some a → (js : List ℕ) × LeadsTo c s j js × (open_total price s js ≡ a)
+  pub cover : (j : ℕ) (js : List ℕ) → LeadsTo c s j js → length js < positions c →
+      (a : Levels) × (row j ≡ Some a) × IsAtMost a (open_total price s js)
+  pub back : (i : ℕ) (js : List ℕ) → LeadsTo c s i js → length js < positions c → IsStep c i s →
+      IsAtMost threshold (levels_sum (open_total price s js) (price i s))
 
 module _ (c : Chain) (price : ℕ → ℕ → Levels) (threshold : Levels) (entry : ℕ → ℕ → Option Levels) (above : IsBelow zero_levels threshold) (rows : (s : ℕ) → s < positions c → IsSearched c price threshold s (entry s)) where
   no_polygon : (walk : List ℕ) → ¬ IsPolygonBelow c price threshold walk

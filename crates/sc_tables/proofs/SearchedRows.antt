@@ -10,14 +10,19 @@ use Rattle.sc_tables.specs.Walks.{WalksAlong, end_of, LeadsTo}
 use Rattle.sc_tables.specs.Totals.{open_total, IsAtMost}
 use Rattle.sc_tables.specs.StepPrices.{AreForChain, price_in}
 use Rattle.sc_tables.specs.declared.search.Node.{Node}
-use Rattle.sc_tables.specs.Searches.{AreWalks, Lower}
-use Rattle.sc_tables.specs.States.{IsDone}
-use Rattle.sc_tables.specs.Rows.{IsSearched}
-use Rattle.sc_tables.specs.Trails.{IsTotalOf, AreTotalsAfter}
-use Rattle.sc_tables.specs.CheapPolygons.{AreSearched}
+use Rattle.sc_tables.specs.inside.Searches.{AreWalks}
+use Rattle.sc_tables.specs.Searches.{Lower}
+use Rattle.sc_tables.specs.inside.States.{IsDone}
+use Rattle.sc_tables.proofs.Rows.{IsSearched}
+use Rattle.sc_tables.specs.inside.Trails.{IsTotalOf, AreTotalsAfter}
 use Rattle.sc_tables.proofs.Best.{same_item}
 use Rattle.sc_tables.proofs.NodeWalks.{walk_of}
 use Rattle.sc_tables.proofs.States.{end_place}
+
+-- the rows of the first n starts were searched
+pub record AreSearched {W : Type 0} (levels : W → Levels) (c : Chain) (price : ℕ → ℕ → Levels) (threshold : Levels) (side n : ℕ) (cells : List (Option W)) : Type 0 where
+  pub len : length cells ≡ n * side
+  pub row : (s : ℕ) → s < n → IsSearched c price threshold s (λ j. option_map levels (get_or cells (s * side + j) None))
 
 end_inside : (c : Chain) (i : ℕ) (js : List ℕ) → i < positions c → WalksAlong c i js → end_of i js < positions c
 end_inside c i [] inside walks = inside

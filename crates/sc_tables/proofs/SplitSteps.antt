@@ -6,10 +6,18 @@ use Rattle.std.proofs.lemmas.List.{append-nil, append_assoc, take_more}
 use Rattle.std.proofs.lemmas.Int.{ints}
 use Rattle.sc_theory.specs.Chains.{Chain}
 use Rattle.sc_theory.specs.Walks.{IsClosedWalk, IsPolygon, HasNoRepeat, walk_total, walks_total}
-use Rattle.sc_tables.specs.Splits.{IsPolygonOf, GoesOn, CutsOff, IsSplitSoFar, HaveStepsOf}
+use Rattle.sc_tables.specs.inside.Splits.{IsPolygonOf, CutsOff}
+use Rattle.sc_tables.specs.Splits.{GoesOn, HaveStepsOf}
 use Rattle.sc_tables.proofs.WalkLaws.{cut_between, cut_rest, total-cut, total-turned}
 use Rattle.sc_tables.proofs.Polygons.{polygon_from, put_last}
 use Rattle.sc_tables.proofs.Repeats.{all_front}
+
+-- the polygons that were cut off, the path, and the rest of the walk
+pub record IsSplitSoFar (c : Chain) (walk path rest : List ℕ) (polygons : List (List ℕ)) : Type 0 where
+  pub closed : IsClosedWalk c (path ++ rest)
+  pub simple : HasNoRepeat path
+  pub valid : AllByRecursion (IsPolygon c) polygons
+  pub steps : (price : ℕ → ℕ → ℤ) → walks_total price polygons +ℤ walk_total price (path ++ rest) ≡ walk_total price walk
 
 -- what is left from a place on, taken at its full length, is all of it
 pub rest_whole : (xs : List ℕ) (k : ℕ) → take (length xs - k) (drop k xs) ≡ drop k xs
@@ -32,6 +40,7 @@ drop_all (x ∷ xs) zero past = absurd (omega arith)
 drop_all (x ∷ xs) (suc i) past = drop_all xs i (omega arith)
 
 -- ---- the polygon of a closed walk without repeats
+
 -- a list cut at its place k: what is before it, the number there, and the rest
 pub record Parts (xs : List ℕ) (k : ℕ) : Type 0 where
   pub place : ℕ
@@ -65,6 +74,7 @@ polygon_at c xs k inside closed simple least =
     }
 
 -- ---- one position more
+
 -- where the walk comes to a position of the path again, the path from there on is a closed walk
 pub may_return : (c : Chain) (path : List ℕ) (x : ℕ) (rest : List ℕ) → IsClosedWalk c (path ++ x ∷ rest) → (a b : List ℕ) → path ≡ a ++ x ∷ b → IsClosedWalk c (x ∷ b)
 may_return c path x rest closed a b is =
@@ -166,6 +176,7 @@ module _ (c : Chain) (path : List ℕ) (x k : ℕ) (inside : k < length path) (a
       }
 
 -- ---- the last step
+
 module _ (c : Chain) (walk path rest : List ℕ) (polygons : List (List ℕ)) (so_far : IsSplitSoFar c walk path rest polygons) (none : rest ≡ []) where
   at_end : path ++ rest ≡ path
   at_end = ap (λ (ys : List ℕ). path ++ ys) none ∙ append-nil path

@@ -9,8 +9,9 @@ use Rattle.sc_tables.specs.Walks.{LeadsTo}
 use Rattle.sc_tables.specs.Totals.{open_total, IsAtMost}
 use Rattle.sc_tables.specs.StepPrices.{AreForChain, price_in}
 use Rattle.sc_tables.specs.declared.search.Node.{Node}
-use Rattle.sc_tables.specs.Searches.{AreWalks, AllReach, IsGrowing, Grows, IsEnd, AreEnds, Lower, IsNext}
-use Rattle.sc_tables.specs.States.{IsBegun, CoversWalks, ReachBack, IsState, IsDone}
+use Rattle.sc_tables.specs.inside.Searches.{AreWalks, AllReach, IsGrowing, Grows, AreEnds}
+use Rattle.sc_tables.specs.Searches.{IsEnd, Lower, IsNext}
+use Rattle.sc_tables.specs.inside.States.{IsBegun, CoversWalks, ReachBack, IsState, IsDone}
 use Rattle.sc_tables.proofs.Order.{at_most-refl, at_most-trans, at_most-sum}
 use Rattle.sc_tables.proofs.LeastTotals.{open_total-step}
 use Rattle.sc_tables.proofs.Best.{same_item}

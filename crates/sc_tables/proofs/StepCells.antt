@@ -21,12 +21,20 @@ use Rattle.sc_chain.specs.declared.sign.Sign.TheVariants.{Plus, Minus}
 use Rattle.sc_chain.specs.Pairs.{row_in, row_price}
 use Rattle.sc_chain.proofs.PairLaws.{pair_price_is}
 use Rattle.sc_tables.specs.Squares.{Square, cell, level_of}
-use Rattle.sc_tables.specs.StepPrices.{list_at, pair_levels, base_levels, step_levels, signed_levels, IsCell, AreCells, AreForChain, price_in}
-use Rattle.sc_tables.specs.StepFaults.{IsTurn, IsStepFault}
+use Rattle.sc_tables.specs.StepPrices.{list_at, pair_levels, base_levels, step_levels, AreForChain, price_in}
+use Rattle.sc_tables.specs.inside.StepPrices.{signed_levels, IsCell}
+use Rattle.sc_tables.specs.inside.StepFaults.{IsTurn}
+use Rattle.sc_tables.specs.StepFaults.{IsStepFault}
 use Rattle.sc_tables.specs.declared.prices.StepFault.{StepFault}
 use Rattle.sc_tables.specs.declared.prices.StepFault.TheVariants.{Turn, Step, Memory}
 
+-- the first n cells of the table
+pub record AreCells {W : Type 0} (levels : W → Levels) (c : Chain) (pair base : List W) (side n : ℕ) (cells : List (Option W)) : Type 0 where
+  pub len : length cells ≡ n
+  pub at : (k : ℕ) → k < n → IsCell levels c pair base (k % side) (k / side) (get_or cells k None)
+
 -- ---- there are few pairs
+
 filter_short : (test : ℕ → Bool) (xs : List ℕ) → length (filter test xs) ≤ length xs
 filter_short test [] = omega arith
 filter_short test (x ∷ xs) = elim (cases_Bool (test x)) [ inl e ↦ rw e (omega (arith, filter_short test xs)) | inr e ↦ rw e (omega (arith, filter_short test xs)) ]
@@ -50,6 +58,7 @@ pub pairs_fit : (c : Chain) (row : ℕ) → positions c ≤ 64 → row < length 
 pairs_fit c row few inside = omega (arith, few_pairs c, square_below (positions c) few)
 
 -- ---- the price of a pair
+
 negative : (x : ℤ) → neg_ℤ x ≡ pos 0 -ℤ x
 negative x = omega (arith, ints)
 
@@ -90,6 +99,7 @@ turn_is levels c pair base row w (Step from to level wide) here is = absurd is
 turn_is levels c pair base row w Memory here is = absurd is
 
 -- ---- the table
+
 -- one cell more
 pub next_cell : {W : Type 0} (levels : W → Levels) (c : Chain) (pair base : List W) (side n : ℕ) (cells : List (Option W)) (o : Option W) → AreCells levels c pair base side n cells → IsCell levels c pair base (n % side) (n / side) o → AreCells levels c pair base side (n + 1) (cells ++ o ∷ [])
 next_cell levels c pair base side n cells o are is =

@@ -4,9 +4,7 @@ pub mod Tables
 pub mod Squares
 pub mod StepPrices
 pub mod Searches
-pub mod Rows
-pub mod States
 pub mod Splits
 pub mod StepFaults
-pub mod Trails
 pub mod CheapPolygons
+pub mod inside

@@ -1,5 +1,5 @@
 -- The causes for which the steps of a chain have no prices.
-use Rattle.std.specs.Prelude.{◌≡◌, ℕ, List, slice_get, Some}
+use Rattle.std.specs.Prelude.{◌≡◌, List, slice_get, Some}
 use Rattle.sc_weight.specs.Levels.{Levels, zero_levels, levels_sum, levels_difference}
 use Rattle.sc_weight.specs.Evidence.{IsFirstWideLevel}
 use Rattle.sc_whole.specs.declared.checked.Op.TheVariants.{Add, Sub}
@@ -8,12 +8,6 @@ use Rattle.sc_theory.specs.Walks.{IsStep}
 use Rattle.sc_tables.specs.StepPrices.{pair_levels, base_levels}
 use Rattle.sc_tables.specs.declared.prices.StepFault.{StepFault}
 use Rattle.sc_tables.specs.declared.prices.StepFault.TheVariants.{Turn, Step, Memory}
-
--- 0 minus this price, which is that of the row, is too wide
-abbrev pub IsTurn : Levels → ℕ → StepFault → Type 0
-IsTurn price row (Turn k level wide) = (k ≡ row) × IsFirstWideLevel Sub (levels_difference zero_levels price) zero_levels price (record { level = level; wide = wide })
-IsTurn price row (Step from to level wide) = ⊥
-IsTurn price row Memory = ⊥
 
 -- 0 minus the price of a row is too wide; or at a step the price of the pair plus the base price is; or memory ran out
 abbrev pub IsStepFault : {W : Type 0} → (W → Levels) → Chain → List W → List W → StepFault → Type 0

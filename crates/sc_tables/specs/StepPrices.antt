@@ -1,11 +1,9 @@
 -- The prices of a chain's steps.
-use Rattle.std.specs.Prelude.{◌≡◌, ℕ, ◌<◌, ◌/◌, ◌%◌, List, [], length, get_or, map, Option, Some, None, pos}
-use Rattle.sc_weight.specs.Levels.{Levels, zero_levels, levels_difference}
+use Rattle.std.specs.Prelude.{◌≡◌, ℕ, ◌<◌, List, [], map, Some, pos}
+use Rattle.sc_weight.specs.Levels.{Levels}
 use Rattle.sc_weight.specs.Evidence.{at_level}
 use Rattle.sc_weight.specs.declared.level.Level.{Level}
 use Rattle.sc_weight.specs.declared.level.Level.TheVariants.{Bulk, Fine}
-use Rattle.sc_chain.specs.declared.sign.Sign.{Sign}
-use Rattle.sc_chain.specs.declared.sign.Sign.TheVariants.{Plus, Minus}
 use Rattle.sc_theory.specs.Chains.{Chain, positions}
 use Rattle.sc_theory.specs.Walks.{IsStep}
 use Rattle.sc_theory.specs.Prices.{Prices, pair_price, base_price, price}
@@ -29,21 +27,6 @@ base_levels levels c base j =
 abbrev pub step_levels : {W : Type 0} → (W → Levels) → Chain → List W → List W → ℕ → ℕ → Levels
 step_levels levels c pair base i j =
     record { bulk = price c (list_at levels pair base Bulk) i j; fine = price c (list_at levels pair base Fine) i j }
-
--- the price of a row, or 0 minus it
-abbrev pub signed_levels : Sign → Levels → Levels
-signed_levels Plus price = price
-signed_levels Minus price = levels_difference zero_levels price
-
--- the entry of the step from i to j, and none where there is no step
-abbrev pub IsCell : {W : Type 0} → (W → Levels) → Chain → List W → List W → ℕ → ℕ → Option W → Type 0
-IsCell levels c pair base i j None = ¬ IsStep c i j
-IsCell levels c pair base i j (Some w) = IsStep c i j × (levels w ≡ step_levels levels c pair base i j)
-
--- the first n cells of the table
-pub record AreCells {W : Type 0} (levels : W → Levels) (c : Chain) (pair base : List W) (side n : ℕ) (cells : List (Option W)) : Type 0 where
-  pub len : length cells ≡ n
-  pub at : (k : ℕ) → k < n → IsCell levels c pair base (k % side) (k / side) (get_or cells k None)
 
 -- the table has the size of the chain, and an entry exactly where there is a step
 pub record AreForChain {W : Type 0} (c : Chain) (t : Square W) : Type 0 where

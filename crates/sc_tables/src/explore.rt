@@ -4,8 +4,9 @@ ghost use Rattle.std.specs.Prelude.{◌≡◌, ◌<◌, ◌≤◌, ℕ, length, 
 ghost use Rattle.sc_theory.specs.Chains.{positions};
 ghost use Rattle.sc_chain.specs.declared.limits.TheConstants.{MAX_POSITIONS};
 ghost use Rattle.sc_tables.specs.StepPrices.{AreForChain};
-ghost use Rattle.sc_tables.specs.Searches.{AreWalks, IsStop, Closes, Grows, IsGrowing, AreEnds, IsNext};
-ghost use Rattle.sc_tables.specs.States.{IsFirstRow, IsBegun, IsDone, StopsWithin};
+ghost use Rattle.sc_tables.specs.inside.Searches.{AreWalks, IsStop, Closes, Grows, IsGrowing, AreEnds};
+ghost use Rattle.sc_tables.specs.Searches.{IsNext};
+ghost use Rattle.sc_tables.specs.inside.States.{IsFirstRow, IsBegun, IsDone, StopsWithin};
 
 use crate::prices::StepPrices;
 use crate::search::{Node, Round, Stop, closing, next_row};

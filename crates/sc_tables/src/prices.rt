@@ -5,8 +5,10 @@ ghost use Rattle.sc_theory.specs.Chains.{positions};
 ghost use Rattle.sc_theory.specs.Walks.{IsStep};
 ghost use Rattle.sc_theory.specs.Prices.{pairs as pairs_of};
 ghost use Rattle.sc_chain.specs.declared.limits.TheConstants.{MAX_POSITIONS};
-ghost use Rattle.sc_tables.specs.StepPrices.{base_levels, step_levels, signed_levels, price_in, AreForChain, IsCell};
-ghost use Rattle.sc_tables.specs.StepFaults.{IsTurn, IsStepFault};
+ghost use Rattle.sc_tables.specs.StepPrices.{base_levels, step_levels, price_in, AreForChain};
+ghost use Rattle.sc_tables.specs.inside.StepPrices.{signed_levels, IsCell};
+ghost use Rattle.sc_tables.specs.inside.StepFaults.{IsTurn};
+ghost use Rattle.sc_tables.specs.StepFaults.{IsStepFault};
 
 use sc_chain::{Chain, Pairs, Sign};
 use sc_weight::{Level, Weight};

@@ -4,7 +4,8 @@ ghost use Rattle.std.specs.Prelude.{◌≡◌, ◌⊎◌, ◌<◌, ◌≤◌, �
 ghost use Rattle.std.specs.Ordering.{is_lt};
 ghost use Rattle.sc_weight.specs.Levels.{levels_cmp};
 ghost use Rattle.sc_tables.specs.Totals.{IsBelow, IsAtMost};
-ghost use Rattle.sc_tables.specs.Searches.{ArePlaced, IsCandidate, HasNoStep, IsStop, Under, Covers, Closes, AllReach, Grows, IsGrowing, IsEnd, IsNext, AreEnds};
+ghost use Rattle.sc_tables.specs.inside.Searches.{ArePlaced, IsCandidate, HasNoStep, IsStop, Closes, AllReach, Grows, IsGrowing, AreEnds};
+ghost use Rattle.sc_tables.specs.Searches.{Under, Covers, IsEnd, IsNext};
 
 use crate::prices::StepPrices;
 use sc_weight::{Weight, WideLevel};

@@ -3,7 +3,8 @@
 ghost use Rattle.std.specs.Prelude.{◌≡◌, ◌≢◌, ◌⊎◌, ◌<◌, ◌≤◌, ℕ, List, ◌∷◌, ◌++◌, length, get_or, IfOk, IfSome, IfNone, OnOk};
 ghost use Rattle.std.specs.List.{AllByRecursion};
 ghost use Rattle.sc_theory.specs.Walks.{IsClosedWalk, IsPolygon, HasNoRepeat};
-ghost use Rattle.sc_tables.specs.Splits.{HaveStepsOf, IsPolygonOf, GoesOn, CutsOff};
+ghost use Rattle.sc_tables.specs.Splits.{HaveStepsOf, GoesOn};
+ghost use Rattle.sc_tables.specs.inside.Splits.{IsPolygonOf, CutsOff};
 
 use sc_chain::{Chain, Polygon};
 use std::alloc::{AllocError, Global};

@@ -8,10 +8,11 @@ ghost use Rattle.sc_weight.specs.Levels.{zero_levels};
 ghost use Rattle.sc_tables.specs.Totals.{closed_total, IsBelow, IsAtMost};
 ghost use Rattle.sc_tables.specs.Tables.{IsPolygonBelow};
 ghost use Rattle.sc_tables.specs.StepPrices.{AreForChain, price_in};
-ghost use Rattle.sc_tables.specs.Searches.{AreWalks};
-ghost use Rattle.sc_tables.specs.States.{IsDone};
-ghost use Rattle.sc_tables.specs.Trails.{AreLinked};
-ghost use Rattle.sc_tables.specs.CheapPolygons.{IsTableFault, IsClosedBelow, NamesNode, ShowsStop, round, total_after, PolygonIsBelow, TablesOnlyWhere, TablesFit, TablesVouch, TablesAreLeast};
+ghost use Rattle.sc_tables.specs.inside.Searches.{AreWalks};
+ghost use Rattle.sc_tables.specs.inside.States.{IsDone};
+ghost use Rattle.sc_tables.specs.inside.Trails.{AreLinked};
+ghost use Rattle.sc_tables.specs.CheapPolygons.{IsTableFault, round, PolygonIsBelow, TablesOnlyWhere, TablesFit, TablesVouch, TablesAreLeast};
+ghost use Rattle.sc_tables.specs.inside.CheapPolygons.{IsClosedBelow, NamesNode, ShowsStop, total_after};
 
 use crate::explore::{Trails, begin, explore};
 use crate::prices::StepPrices;

@@ -1,8 +1,8 @@
 //! What is read from the walks of a search: one of them, and the totals of a row.
 
 ghost use Rattle.std.specs.Prelude.{◌≡◌, ◌<◌, ℕ, length, Some, IfOk, OnOk};
-ghost use Rattle.sc_tables.specs.Searches.{AreEnds};
-ghost use Rattle.sc_tables.specs.Trails.{IsTotalOf, AreTotalsAfter, AreLinked, ReadsTo};
+ghost use Rattle.sc_tables.specs.inside.Searches.{AreEnds};
+ghost use Rattle.sc_tables.specs.inside.Trails.{IsTotalOf, AreTotalsAfter, AreLinked, ReadsTo};
 
 use crate::search::Node;
 use sc_weight::Weight;

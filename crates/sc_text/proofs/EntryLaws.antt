@@ -12,10 +12,10 @@ use Rattle.std.proofs.lemmas.Slice.Eq.{bytes_eq-Decides}
 use Rattle.sc_whole.specs.Spelling.{spelling, natural_spelling}
 use Rattle.sc_line.specs.declared.fault.Kind.TheVariants.{Form, Range}
 use Rattle.sc_text.specs.declared.limits.TheConstants.{MAX_ENTRY}
-use Rattle.sc_line.specs.Lines.{Field, number_of}
+use Rattle.sc_line.specs.Lines.{Field, number_of, lacks, AllLack}
 use Rattle.sc_text.specs.PriceLines.{of_size}
-use Rattle.sc_text.specs.TableLines.{Entry, entry_field, is_entry, is_entry_in_range, entry_of, entry_fault, IsEntryInRange}
-use Rattle.sc_line.specs.Lines.{lacks, AllLack}
+use Rattle.sc_text.specs.TableLines.{Entry, entry_field, is_entry, is_entry_in_range, entry_of, IsEntryInRange}
+use Rattle.sc_text.specs.inside.TableLines.{entry_fault}
 use Rattle.sc_line.proofs.LineLaws.{All_push, lacks-spelling, number_of-spelling, number_of_is, in_range_test, in_range_from_test}
 
 dash_is_no_number : number_of (codes "-") ≡ None

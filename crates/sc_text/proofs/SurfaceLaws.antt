@@ -13,9 +13,9 @@ use Rattle.sc_line.specs.Lines.{Line, count_line, text_of}
 use Rattle.sc_line.specs.declared.fault.Kind.{Kind}
 use Rattle.sc_line.specs.declared.fault.TextFault.TheVariants as text_faults
 use Rattle.sc_line.specs.Faults.{IsFaultless, IsFaultOf, IsFirstFault}
-use Rattle.sc_line.specs.Formats.{IsShort, IsCountInRange, plan_of}
+use Rattle.sc_line.specs.Formats.{IsShort, plan_of}
+use Rattle.sc_line.proofs.NumberLaws.{IsCountInRange, count_is_kind}
 use Rattle.sc_line.specs.Forms.{Both, Form, LineKind, IsLawful, IsToldBy, count_kind, lines_after}
-use Rattle.sc_line.proofs.NumberLaws.{count_is_kind}
 use Rattle.sc_line.proofs.FormatLaws.{short_more}
 use Rattle.sc_line.proofs.FormLaws.{AllAfter, AreKinds, AreCounted, AreMany, InBoth, all_after, all_of, lines_map, lawful_both, lawful_one, lawful_counted, lawful_literal, lawful_many, lawful_where}
 use Rattle.sc_line.proofs.TextLaws as texts
@@ -27,7 +27,8 @@ use Rattle.sc_text.specs.Sides.{side_line, IsSideInRange, a_side}
 use Rattle.sc_text.specs.Parts.{words_form, copies_form, sides_form}
 use Rattle.sc_text.specs.Printing.{words_lines, sides_lines}
 use Rattle.sc_text.specs.Surfaces.{heading, ending, from_sides, from_copies, from_words, Said, surface_form, uncounted, surface_due, said, surface_lines, surface_text, surface_table, IsChainInRange, IsSurfaceInRange}
-use Rattle.sc_text.specs.SurfaceRead.{said_by, IsSaid, IsSurfaceRead}
+use Rattle.sc_text.specs.inside.SurfaceRead.{said_by, IsSurfaceRead}
+use Rattle.sc_text.specs.SurfaceRead.{IsSaid}
 use Rattle.sc_text.specs.declared.surface.Surface.{Surface}
 use Rattle.sc_line.specs.declared.fault.TextFault.{TextFault}
 use Rattle.sc_text.proofs.KindLaws.{word_kind, side_kind}

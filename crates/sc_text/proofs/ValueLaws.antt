@@ -15,7 +15,7 @@ use Rattle.sc_fraction.specs.declared.fault.FracFault.TheVariants.{Zero, Wide}
 use Rattle.sc_fraction.specs.Fault.{IfWide}
 use Rattle.sc_fraction.specs.Frac.{numerator, denominator, IsQuotient}
 use Rattle.sc_fraction.specs.Ints.{mul_cancel_z}
-use Rattle.sc_fraction.specs.Laws.{same_frac}
+use Rattle.sc_fraction.proofs.SameValues.{same_frac}
 use Rattle.sc_fraction.specs.Quotient.{quotient_text}
 use Rattle.sc_fraction.specs.Steps.{ForReduced}
 use Rattle.sc_fraction.specs.declared.frac.Frac.{Frac}

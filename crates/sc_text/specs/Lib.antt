@@ -12,3 +12,4 @@ pub mod TableLines
 pub mod Parts
 pub mod Surfaces
 pub mod SurfaceRead
+pub mod inside

@@ -1,20 +1,5 @@
 -- The surface that was read.
-use Rattle.std.specs.Prelude.{ℕ, List, Result}
-use Rattle.sc_line.specs.declared.fault.TextFault.{TextFault}
-use Rattle.sc_line.specs.Lines.{text_of}
-use Rattle.sc_line.specs.Formats.{plan_of}
-use Rattle.sc_line.specs.Forms.{IsRead}
-use Rattle.sc_text.specs.declared.limits.TheConstants.{VERSION_1}
-use Rattle.sc_text.specs.declared.surface.Surface.{Surface}
-use Rattle.sc_text.specs.Surfaces.{Said, surface_form, surface_due, said, IsSurfaceInRange}
-
--- what a surface says
-abbrev pub said_by : Surface → Said
-said_by s = said s.words.items s.copies s.sides.items
+use Rattle.sc_text.specs.Surfaces.{Said, IsSurfaceInRange}
 
 abbrev pub IsSaid : Said → Type 0
 IsSaid v = IsSurfaceInRange v.second.first v.second.second.first v.second.second.second.first
-
--- what a reader of surface texts answers
-abbrev pub IsSurfaceRead : List ℕ → Result Surface TextFault → Type 0
-IsSurfaceRead bytes result = IsRead (λ v. text_of ((surface_form VERSION_1).lines v)) IsSaid (plan_of (surface_due VERSION_1)) bytes said_by result

@@ -35,10 +35,6 @@ is_entry_in_range f = if bytes_eq f (codes "-") then true else option_map_or (of
 abbrev pub entry_of : Field → Entry
 entry_of f = if bytes_eq f (codes "-") then None else number_of f
 
--- the fault of a field that is due to be an entry
-abbrev pub entry_fault : Field → Option Kind
-entry_fault f = if is_entry f then (if is_entry_in_range f then None else Some Range) else Some Form
-
 -- the fault of fields that are due to be so many entries
 abbrev pub entries_fault : ℕ → List Field → Option Kind
 entries_fault count fs =

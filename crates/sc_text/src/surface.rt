@@ -4,7 +4,7 @@ ghost use Rattle.sc_line.specs.declared.fault.Kind.{Kind};
 ghost use Rattle.sc_line.specs.declared.fault.TextFault.TheVariants as text_faults;
 ghost use Rattle.sc_line.specs.Faults.{IsFaultless, IsFaultOf, IsFirstFault};
 ghost use Rattle.sc_text.specs.Surfaces.{surface_due, surface_table, surface_text, IsSurfaceInRange};
-ghost use Rattle.sc_text.specs.SurfaceRead.{IsSurfaceRead};
+ghost use Rattle.sc_text.specs.inside.SurfaceRead.{IsSurfaceRead};
 ghost use Rattle.std.specs.Prelude.{◌≡◌, ◌⊎◌, IsErrAnd, ℕ, IfOk, IfErr, OnOk};
 ghost use Rattle.sc_theory.specs.Chains.{Chain};
 ghost use Rattle.sc_theory.specs.Fatgraphs.{Sides};

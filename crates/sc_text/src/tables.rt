@@ -5,7 +5,8 @@ ghost use Rattle.std.specs.List.{flat_map};
 ghost use Rattle.sc_line.specs.LineFaults.{IsFault};
 ghost use Rattle.sc_line.specs.Lines.{ended};
 ghost use Rattle.sc_line.specs.Printing.{AppendsPart};
-ghost use Rattle.sc_text.specs.TableLines.{entry_field, entry_fault, entries_fault, from_row, IsEntryInRange, IsRowInRange};
+ghost use Rattle.sc_text.specs.TableLines.{entry_field, entries_fault, from_row, IsEntryInRange, IsRowInRange};
+ghost use Rattle.sc_text.specs.inside.TableLines.{entry_fault};
 ghost use Rattle.sc_text.specs.TableLines as lines;
 
 use crate::limits::MAX_ENTRY;

@@ -10,7 +10,7 @@ use Rattle.sc_chain.specs.ChainText.{Line, is_line_feed, text_lines}
 use Rattle.sc_chain.proofs.TextLaws.{IsAt, position_some, line_before_feed, line_without_feed}
 use Rattle.sc_chain.proofs.ReadingLaws.{lines_le}
 use Rattle.sc_two.specs.TwoTexts.{is_separator}
-use Rattle.sc_two.specs.Parts.{IsWhole, IsCut, HasNone, IsPart, IsFollowed}
+use Rattle.sc_two.specs.inside.Parts.{IsWhole, IsCut, HasNone, IsPart, IsFollowed}
 
 -- ---- the first line of a text
 

@@ -11,7 +11,8 @@ use Rattle.sc_chain.specs.ChainText.{Line, Entry, text_lines, line_case, raw_lin
 use Rattle.sc_chain.proofs.ReadingLaws.{lines_le, raw_lines_in_range}
 use Rattle.sc_reduce.specs.Lines.{letters_of}
 use Rattle.sc_reduce.proofs.TextLetters.{letters_of_text}
-use Rattle.sc_two.specs.Behind.{moved, HasRoom, AreLinesBehind}
+use Rattle.sc_two.specs.Behind.{moved}
+use Rattle.sc_two.specs.inside.Behind.{HasRoom, AreLinesBehind}
 
 moved_line : (by n : ℕ) (o : Option Entry) → map (moved by) (raw_line n o) ≡ raw_line (n + by) o
 moved_line by n (Some (Some (z, w))) = refl

@@ -1,3 +1,3 @@
 pub mod TwoTexts
-pub mod Parts
 pub mod Behind
+pub mod inside

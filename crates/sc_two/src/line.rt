@@ -4,7 +4,7 @@ ghost use Rattle.std.specs.Prelude.{◌≡◌, [], position, MatchOption};
 ghost use Rattle.std.specs.Str.Lines.{strip_carriage_return};
 ghost use Rattle.sc_chain.specs.ChainText.{is_blank, is_line_feed};
 ghost use Rattle.sc_two.specs.TwoTexts as texts;
-ghost use Rattle.sc_two.specs.Parts.{IsCut};
+ghost use Rattle.sc_two.specs.inside.Parts.{IsCut};
 
 fn is_space_or_tab(byte: u8) -> bool
     ensures { result ≡ is_blank byte }

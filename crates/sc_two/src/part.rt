@@ -1,7 +1,7 @@
 //! A text up to the line that separates.
 
 ghost use Rattle.std.specs.Prelude.{◌≡◌, ◌<◌, ◌^◌, length, MatchOption};
-ghost use Rattle.sc_two.specs.Parts.{IsPart, IsFollowed};
+ghost use Rattle.sc_two.specs.inside.Parts.{IsPart, IsFollowed};
 
 use crate::line::{is_separator, split_line};
 

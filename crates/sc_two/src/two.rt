@@ -6,7 +6,8 @@ ghost use Rattle.sc_line.specs.declared.fault.Kind.{Kind as AnyKind};
 ghost use Rattle.sc_chain.specs.ChainText.{IsRawLine};
 ghost use Rattle.sc_reduce.specs.Lines.{letters_of};
 ghost use Rattle.sc_two.specs.TwoTexts.{IsTwoText, IsFirstWrong};
-ghost use Rattle.sc_two.specs.Behind.{HasRoom, moved, AreLinesBehind, IsFaultBehind};
+ghost use Rattle.sc_two.specs.inside.Behind.{HasRoom, AreLinesBehind, IsFaultBehind};
+ghost use Rattle.sc_two.specs.Behind.{moved};
 
 use crate::part::first_part;
 use sc_chain::{Kind, RawLine, TextFault, read_lines};

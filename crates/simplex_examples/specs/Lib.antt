@@ -1,3 +1,3 @@
 pub mod Problems
 pub mod ProblemLaws
-pub mod Improving
+pub mod inside

@@ -5,7 +5,7 @@ ghost use Rattle.sc_basis.specs.Products.{at, dot};
 ghost use Rattle.sc_basis.specs.Bases.{entry_of, IsAscending};
 ghost use Rattle.sc_rows.specs.Standing.{ArePrices};
 ghost use Rattle.sc_simplex.specs.Oracles.{ImprovesAt};
-ghost use Rattle.simplex_examples.specs.Improving.{AreAscending, IsImprovingOrNone};
+ghost use Rattle.simplex_examples.specs.inside.Improving.{AreAscending, IsImprovingOrNone};
 
 use crate::listing::Listing;
 use crate::problem::Problem;

@@ -3,7 +3,8 @@ use Rattle.std.specs.List.{AllByRecursion}
 use Rattle.sc_fraction.specs.Frac.{denominator}
 use Rattle.sc_theory.specs.Chains.{weighted_length}
 use Rattle.sc_assembly.specs.declared.parts.Part.{Part}
-use Rattle.sc_assembly.specs.Multiples.{IsLeastCommon, IsCountable, AreCounts}
+use Rattle.sc_assembly.specs.Multiples.{IsLeastCommon, AreCounts}
+use Rattle.sc_assembly.specs.inside.Multiples.{IsCountable}
 use Rattle.sc_assembly.proofs.Wholes.{least_whole}
 use Rattle.sc_assembly.proofs.Sizes.{whole_over_nothing, counts_fit, balanced}
 use Rattle.sc_assembly.proofs.counting.multiples.Goals as goal

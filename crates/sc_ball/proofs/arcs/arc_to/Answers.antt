@@ -1,5 +1,5 @@
 use Rattle.std.proofs.Common.{subst}
-use Rattle.sc_ball.specs.Halves.{IsArcAlong}
+use Rattle.sc_ball.specs.inside.Halves.{IsArcAlong}
 use Rattle.sc_ball.specs.Searched.{entries_of}
 use Rattle.sc_ball.proofs.HalfLaws.{along_first, along_further_ok}
 use Rattle.sc_ball.proofs.arcs.arc_to.Goals as goal

@@ -1,5 +1,5 @@
 use Rattle.std.proofs.Common.{◌≡◌, true, false, subst}
-use Rattle.sc_ball.specs.Arcs.{IsSpareOf, list_in}
+use Rattle.sc_ball.specs.inside.Arcs.{IsSpareOf, list_in}
 use Rattle.sc_ball.proofs.ArcSteps.{second_chosen}
 use Rattle.sc_ball.proofs.arcs.chosen.Goals as goal
 

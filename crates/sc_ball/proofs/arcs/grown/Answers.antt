@@ -5,7 +5,7 @@ use Rattle.sc_cone.specs.Cones.{chain_of}
 use Rattle.sc_cone.specs.Values.{IsValueOf}
 use Rattle.sc_fan.specs.declared.corner.Corner.{Corner as CornerParts}
 use Rattle.sc_fan.specs.FanRead.{edge_said}
-use Rattle.sc_ball.specs.Arcs.{IsTightLast}
+use Rattle.sc_ball.specs.inside.Arcs.{IsTightLast}
 use Rattle.sc_ball.proofs.arcs.grown.Goals as goal
 
 pub returns-then-goes_on : goal.returns-then-goes_on

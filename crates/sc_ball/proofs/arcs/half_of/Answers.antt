@@ -3,7 +3,7 @@ use Rattle.std.specs.Vec.Iter.{into_iter_items}
 use Rattle.std.proofs.lemmas.List.{length-append}
 use Rattle.sc_ball.specs.declared.solved.Solved.{Solved}
 use Rattle.sc_ball.specs.Searched.{entries_of}
-use Rattle.sc_ball.specs.Halves.{IsArcAlong}
+use Rattle.sc_ball.specs.inside.Halves.{IsArcAlong}
 use Rattle.sc_ball.proofs.EntryLists.{item_at, all_taken}
 use Rattle.sc_ball.proofs.HalfLaws.{along_all_ok, some_entries}
 use Rattle.sc_ball.proofs.arcs.half_of.Goals as goal

@@ -1,8 +1,9 @@
 use Rattle.std.proofs.Common.{◌≡◌, ◌++◌, length}
 use Rattle.std.specs.Vec.Iter.{into_iter_items, into_iter_len}
 use Rattle.sc_cone.specs.declared.Quadrant.{Quadrant}
-use Rattle.sc_ball.specs.Searched.{IsSearchedTo, entries_of}
-use Rattle.sc_ball.specs.Halves.{IsArcAlong}
+use Rattle.sc_ball.specs.inside.Searched.{IsSearchedTo}
+use Rattle.sc_ball.specs.Searched.{entries_of}
+use Rattle.sc_ball.specs.inside.Halves.{IsArcAlong}
 use Rattle.sc_ball.proofs.arcs.half_of.Given as goal
 
 abbrev pub invariant-loop-entry : goal.invariant-loop-entry

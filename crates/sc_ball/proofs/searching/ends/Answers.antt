@@ -1,6 +1,6 @@
 use Rattle.std.proofs.Common.{List, sym, subst, ◌∙◌}
 use Rattle.sc_ball.specs.declared.solved.Solved.{Solved}
-use Rattle.sc_ball.specs.Searched.{IsSearchedTo}
+use Rattle.sc_ball.specs.inside.Searched.{IsSearchedTo}
 use Rattle.sc_ball.proofs.SearchLaws.{searched_ends}
 use Rattle.sc_ball.proofs.searching.ends.Goals as goal
 

@@ -2,8 +2,8 @@ use Rattle.std.proofs.Common.{◌≡◌, ◌+◌, ◌≤◌, List, length, arith
 use Rattle.std.proofs.lemmas.List.Edits.{length-insert}
 use Rattle.sc_ball.specs.declared.solved.Solved.{Solved}
 use Rattle.sc_ball.specs.Solved.{seen}
-use Rattle.sc_ball.specs.Searched.{IsSearchedTo, IsEntryBetween}
-use Rattle.sc_ball.specs.Halves.{most_entries}
+use Rattle.sc_ball.specs.inside.Searched.{IsSearchedTo, IsEntryBetween}
+use Rattle.sc_ball.specs.inside.Halves.{most_entries}
 use Rattle.sc_ball.proofs.SearchLaws.{gap_here, searched_further, searched_more, stopped_here, few_entries}
 use Rattle.sc_ball.proofs.searching.search.Goals as goal
 

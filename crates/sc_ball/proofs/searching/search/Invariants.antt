@@ -1,6 +1,6 @@
 use Rattle.std.proofs.Common.{◌+◌, ◌-◌, ◌*◌, ◌<◌, length}
-use Rattle.sc_ball.specs.Searched.{IsSearchedTo}
-use Rattle.sc_ball.specs.Halves.{most_entries}
+use Rattle.sc_ball.specs.inside.Searched.{IsSearchedTo}
+use Rattle.sc_ball.specs.inside.Halves.{most_entries}
 use Rattle.sc_ball.proofs.searching.search.Given as goal
 
 abbrev pub invariant-loop-place : goal.invariant-loop-place

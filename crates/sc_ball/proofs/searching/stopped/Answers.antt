@@ -1,7 +1,7 @@
 use Rattle.std.proofs.Common.{suc, map, subst}
 use Rattle.sc_cone.specs.Searches.{reached}
 use Rattle.sc_crossing.specs.Neighbours.{reached_of}
-use Rattle.sc_ball.specs.Searched.{IsStopBetween}
+use Rattle.sc_ball.specs.inside.Searched.{IsStopBetween}
 use Rattle.sc_ball.proofs.SearchLaws.{unsolved_next}
 use Rattle.sc_ball.proofs.searching.stopped.Goals as goal
 

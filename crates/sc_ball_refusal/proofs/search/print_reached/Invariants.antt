@@ -1,7 +1,7 @@
 use Rattle.std.proofs.Common.{◌≡◌, ◌++◌, take}
 use Rattle.std.specs.List.{flat_map}
 use Rattle.sc_crossing.specs.Neighbours.{reached_of}
-use Rattle.sc_ball_refusal.specs.Texts.{reached_text}
+use Rattle.sc_ball_refusal.specs.inside.Texts.{reached_text}
 use Rattle.sc_ball_refusal.proofs.search.print_reached.Given as goal
 
 abbrev pub invariant-loop-entry : goal.invariant-loop-entry

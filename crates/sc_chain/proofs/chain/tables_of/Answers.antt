@@ -2,8 +2,8 @@ use Rattle.std.proofs.lemmas.List.{get_or_default}
 use Rattle.std.proofs.Common.{ap, ◌∙◌, ◌≡◌, ℕ, ◌+◌, List, [], ◌∷◌, ◌++◌, length, subst, arith, rules}
 use Rattle.sc_theory.specs.Words.{Word}
 use Rattle.sc_theory.specs.Chains.{no_word, word}
-use Rattle.sc_chain.specs.Tables.{AreTablesBelow, AppendsBelow}
-use Rattle.sc_chain.proofs.Entries.{next_word, whole}
+use Rattle.sc_chain.proofs.Entries.{AreTablesBelow, next_word, whole}
+use Rattle.sc_chain.specs.inside.Tables.{AppendsBelow}
 use Rattle.sc_chain.proofs.chain.tables_of.Goals as goal
 
 pub loop-number-preserved : goal.loop-number-preserved

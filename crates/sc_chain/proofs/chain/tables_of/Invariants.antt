@@ -1,4 +1,4 @@
-use Rattle.sc_chain.specs.Tables.{AreTablesBelow}
+use Rattle.sc_chain.proofs.Entries.{AreTablesBelow}
 use Rattle.sc_chain.proofs.chain.tables_of.Given as goal
 
 abbrev pub invariant-loop-number : goal.invariant-loop-number

@@ -6,8 +6,7 @@ use mir.Syntax.{w64}
 use Rattle.sc_theory.specs.Words.{Word, total}
 use Rattle.sc_theory.specs.Chains.{no_word, weight, word}
 use Rattle.sc_theory.proofs.ChainSums.{chain_total_sum}
-use Rattle.sc_chain.specs.Balance.{IsTotalSoFar}
-use Rattle.sc_chain.proofs.Balanced.{next_total}
+use Rattle.sc_chain.proofs.Balanced.{IsTotalSoFar, next_total}
 use Rattle.sc_chain.proofs.totals.total_in_words.Goals as goal
 
 pub loop-entry-preserved : goal.loop-entry-preserved

@@ -1,4 +1,4 @@
-use Rattle.sc_chain.specs.Balance.{IsTotalSoFar}
+use Rattle.sc_chain.proofs.Balanced.{IsTotalSoFar}
 use Rattle.sc_chain.proofs.totals.total_in_words.Given as goal
 
 abbrev pub invariant-loop-entry : goal.invariant-loop-entry

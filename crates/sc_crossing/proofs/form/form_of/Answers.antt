@@ -1,6 +1,6 @@
 use Rattle.std.proofs.Common.{ℕ, ℤ, subst}
 use Rattle.sc_fraction.specs.Frac.{IsQuotient}
-use Rattle.sc_crossing.specs.Sizes.{form_from}
+use Rattle.sc_crossing.specs.inside.Sizes.{form_from}
 use Rattle.sc_crossing.proofs.FormNumbers.{first_form_is}
 use Rattle.sc_crossing.proofs.form.form_of.Goals as goal
 

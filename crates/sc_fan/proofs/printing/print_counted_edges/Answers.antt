@@ -3,7 +3,7 @@ use Rattle.std.proofs.lemmas.Result.{on_err_weaker}
 use Rattle.sc_line.specs.Lines.{ended, count_line}
 use Rattle.sc_line.specs.Printing.{AppendsPart}
 use Rattle.sc_line.proofs.PrintLaws.{on_err}
-use Rattle.sc_fan.specs.Printing.{edges_text, counted_edges_text}
+use Rattle.sc_fan.specs.inside.Printing.{edges_text, counted_edges_text}
 use Rattle.sc_fan.proofs.Pieces.{front_of, part_of}
 use Rattle.sc_fan.proofs.printing.print_counted_edges.Goals as goal
 

@@ -5,7 +5,7 @@ use Rattle.sc_line.specs.Printing.{AppendsPart}
 use Rattle.sc_line.proofs.PrintLaws.{on_err}
 use Rattle.sc_fan.specs.Fans.{edge_line}
 use Rattle.sc_certificate.specs.Spelled.{list_text}
-use Rattle.sc_fan.specs.Printing.{edge_text}
+use Rattle.sc_fan.specs.inside.Printing.{edge_text}
 use Rattle.sc_fan.proofs.Pieces.{front_of, part_of}
 use Rattle.sc_fan.proofs.printing.print_edge.Goals as goal
 

@@ -1,6 +1,6 @@
 use Rattle.std.proofs.Common.{◌≡◌, ◌++◌, take}
 use Rattle.std.specs.List.{flat_map, enumerate_from}
-use Rattle.sc_fan.specs.Printing.{edge_piece}
+use Rattle.sc_fan.specs.inside.Printing.{edge_piece}
 use Rattle.sc_fan.proofs.printing.print_edge_lines.Given as goal
 
 abbrev pub invariant-loop-number : goal.invariant-loop-number

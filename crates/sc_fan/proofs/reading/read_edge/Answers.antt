@@ -2,7 +2,7 @@ use Rattle.std.proofs.Common.{◌≡◌, ◌+◌, ◌∙◌, ℕ, suc, ap, map, 
 use Rattle.std.proofs.lemmas.Result.{err_from_is_err_and}
 use Rattle.sc_cone.specs.Fans.{no_corner}
 use Rattle.sc_fan.specs.Corners.{corner_said}
-use Rattle.sc_fan.specs.Printing.{edge_pairs}
+use Rattle.sc_fan.specs.inside.Printing.{edge_pairs}
 use Rattle.sc_fan.proofs.Ranges.{pairs_at, corner_at}
 use Rattle.sc_fan.proofs.ReaderLaws.{number_stops, list_stops, numbered_taken}
 use Rattle.sc_fan.proofs.reading.read_edge.Goals as goal

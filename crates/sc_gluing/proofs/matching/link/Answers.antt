@@ -1,5 +1,5 @@
 use Rattle.std.proofs.Common.{◌≡◌, ◌<◌, ◌-◌, ℕ, suc, length, arith, subst}
-use Rattle.sc_gluing.specs.Matching.{AreLinked}
+use Rattle.sc_gluing.specs.inside.Matching.{AreLinked}
 use Rattle.sc_gluing.proofs.Linking.{one_linked}
 use Rattle.sc_gluing.proofs.matching.link.Goals as goal
 

@@ -1,4 +1,4 @@
-use Rattle.sc_gluing.specs.Matching.{AreLinked}
+use Rattle.sc_gluing.specs.inside.Matching.{AreLinked}
 use Rattle.sc_gluing.proofs.matching.link.Given as goal
 
 abbrev pub invariant-loop-here : goal.invariant-loop-here

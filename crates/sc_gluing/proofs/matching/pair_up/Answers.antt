@@ -1,6 +1,5 @@
 use Rattle.std.proofs.Common.{◌<◌, ◌+◌, ℕ, List, length, get_or, set, arith, sym, subst}
-use Rattle.sc_gluing.specs.Matching.{ArePaired}
-use Rattle.sc_gluing.proofs.Linking.{one_paired}
+use Rattle.sc_gluing.proofs.Linking.{ArePaired, one_paired}
 use Rattle.sc_gluing.proofs.matching.pair_up.Goals as goal
 
 pub loop-kind-preserved : goal.loop-kind-preserved

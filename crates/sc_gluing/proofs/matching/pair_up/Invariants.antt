@@ -1,4 +1,4 @@
-use Rattle.sc_gluing.specs.Matching.{ArePaired}
+use Rattle.sc_gluing.proofs.Linking.{ArePaired}
 use Rattle.sc_gluing.proofs.matching.pair_up.Given as goal
 
 abbrev pub invariant-loop-kind : goal.invariant-loop-kind

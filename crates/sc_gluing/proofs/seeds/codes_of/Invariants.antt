@@ -1,4 +1,4 @@
-use Rattle.sc_gluing.specs.Letters.{AreCodes}
+use Rattle.sc_gluing.specs.inside.Letters.{AreCodes}
 use Rattle.sc_gluing.proofs.seeds.codes_of.Given as goal
 
 abbrev pub invariant-loop-label : goal.invariant-loop-label

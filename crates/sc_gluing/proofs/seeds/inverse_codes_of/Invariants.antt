@@ -1,4 +1,4 @@
-use Rattle.sc_gluing.specs.Letters.{AreInverseCodes}
+use Rattle.sc_gluing.specs.inside.Letters.{AreInverseCodes}
 use Rattle.sc_gluing.proofs.seeds.inverse_codes_of.Given as goal
 
 abbrev pub invariant-loop-label : goal.invariant-loop-label

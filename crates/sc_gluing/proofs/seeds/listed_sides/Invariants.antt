@@ -1,4 +1,4 @@
-use Rattle.sc_gluing.specs.Letters.{AreListed}
+use Rattle.sc_gluing.specs.inside.Letters.{AreListed}
 use Rattle.sc_gluing.proofs.seeds.listed_sides.Given as goal
 
 abbrev pub invariant-loop-side : goal.invariant-loop-side

@@ -2,7 +2,7 @@ use Rattle.std.proofs.Common.{ℕ, ◌<◌, ◌^◌, List, length, arith, sym, s
 use Rattle.std.proofs.lemmas.Result.{IfOk-weaker}
 use Rattle.sc_theory.proofs.FatgraphLaws.{length_is}
 use Rattle.sc_gluing.specs.Laying.{AreLaid}
-use Rattle.sc_gluing.specs.Letters.{AreSeedMates}
+use Rattle.sc_gluing.specs.inside.Letters.{AreSeedMates}
 use Rattle.sc_gluing.specs.Seeds.{word_cycles}
 use Rattle.sc_gluing.proofs.LetterCodes.{listed_seed}
 use Rattle.sc_gluing.proofs.SeedLaws.{seed_fatgraph}

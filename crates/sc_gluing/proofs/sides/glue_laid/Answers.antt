@@ -2,7 +2,8 @@ use Rattle.std.proofs.Common.{◌≡◌, ◌<◌, ℕ, List, length, sym, subst,
 use Rattle.std.proofs.lemmas.Result.{IfOk-weaker}
 use Rattle.sc_theory.specs.Chains.{Chain, positions}
 use Rattle.sc_gluing.specs.Laying.{AreLaid}
-use Rattle.sc_gluing.specs.Sides.{AreGlueable, AreMates}
+use Rattle.sc_gluing.specs.Sides.{AreGlueable}
+use Rattle.sc_gluing.specs.inside.Sides.{AreMates}
 use Rattle.sc_gluing.proofs.SideLists.{afters_within}
 use Rattle.sc_gluing.proofs.KindLaws.{inside, afters_apart, sides_glued}
 use Rattle.sc_gluing.proofs.sides.glue_laid.Goals as goal

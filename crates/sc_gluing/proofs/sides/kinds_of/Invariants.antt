@@ -1,4 +1,4 @@
-use Rattle.sc_gluing.specs.Sides.{AreKinds}
+use Rattle.sc_gluing.specs.inside.Sides.{AreKinds}
 use Rattle.sc_gluing.proofs.sides.kinds_of.Given as goal
 
 abbrev pub invariant-loop-side : goal.invariant-loop-side

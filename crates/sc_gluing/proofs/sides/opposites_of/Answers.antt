@@ -1,6 +1,7 @@
 use Rattle.std.proofs.Common.{◌≡◌, ◌+◌, ◌*◌, ℕ, List, get_or, sym, subst}
 use Rattle.sc_theory.specs.Chains.{positions, succ, prev}
-use Rattle.sc_gluing.specs.Sides.{end_at, kind, AreOpposites}
+use Rattle.sc_gluing.specs.inside.Sides.{end_at, AreOpposites}
+use Rattle.sc_gluing.specs.Sides.{kind}
 use Rattle.sc_gluing.proofs.SideLists.{opposites_more}
 use Rattle.sc_gluing.proofs.sides.opposites_of.Goals as goal
 

@@ -1,4 +1,4 @@
-use Rattle.sc_gluing.specs.Sides.{AreOpposites}
+use Rattle.sc_gluing.specs.inside.Sides.{AreOpposites}
 use Rattle.sc_gluing.proofs.sides.opposites_of.Given as goal
 
 abbrev pub invariant-loop-side : goal.invariant-loop-side

@@ -1,4 +1,4 @@
-use Rattle.sc_gluing.specs.Sides.{AreSides}
+use Rattle.sc_gluing.specs.inside.Sides.{AreSides}
 use Rattle.sc_gluing.proofs.sides.sides_of.Given as goal
 
 abbrev pub invariant-loop-side : goal.invariant-loop-side

@@ -1,4 +1,4 @@
-use Rattle.sc_gluing.specs.Sides.{AreMates}
+use Rattle.sc_gluing.specs.inside.Sides.{AreMates}
 use Rattle.sc_gluing.proofs.sides.write_mates.Given as goal
 
 abbrev pub invariant-loop-side : goal.invariant-loop-side

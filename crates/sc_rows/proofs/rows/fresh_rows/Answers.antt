@@ -1,7 +1,7 @@
 use Rattle.std.proofs.Common.{ℕ, Option, None}
 use Rattle.sc_basis.specs.Products.{at}
 use Rattle.sc_rows.specs.Lines.{Line}
-use Rattle.sc_rows.specs.Fresh.{IsFresh}
+use Rattle.sc_rows.specs.inside.Fresh.{IsFresh}
 use Rattle.sc_rows.proofs.Pushed.{pushed_each, pushed_length}
 use Rattle.sc_rows.proofs.rows.fresh_rows.Goals as goal
 

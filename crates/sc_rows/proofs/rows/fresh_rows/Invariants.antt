@@ -1,6 +1,6 @@
 use Rattle.std.proofs.Common.{◌≡◌, length}
 use Rattle.sc_basis.specs.Products.{at}
-use Rattle.sc_rows.specs.Fresh.{AreFresh}
+use Rattle.sc_rows.specs.inside.Fresh.{AreFresh}
 use Rattle.sc_rows.proofs.rows.fresh_rows.Given as goal
 
 abbrev pub invariant-loop-index : goal.invariant-loop-index

@@ -1,6 +1,6 @@
 use Rattle.std.proofs.Common.{◌≡◌, ℕ, ◌<◌, ◌≤◌, length, get_or, None}
 use Rattle.sc_rows.specs.Lines.{no_line}
-use Rattle.sc_rows.specs.Fresh.{chosen}
+use Rattle.sc_rows.specs.inside.Fresh.{chosen}
 use Rattle.sc_rows.proofs.rows.put_in.Given as goal
 
 abbrev pub invariant-loop-index : goal.invariant-loop-index

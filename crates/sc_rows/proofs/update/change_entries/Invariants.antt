@@ -1,6 +1,6 @@
 use Rattle.std.proofs.Common.{◌≡◌, ℕ, ◌≤◌}
 use Rattle.sc_basis.specs.Products.{at}
-use Rattle.sc_rows.specs.Updates.{AreJoined}
+use Rattle.sc_rows.specs.inside.Updates.{AreJoined}
 use Rattle.sc_rows.proofs.update.change_entries.Given as goal
 
 abbrev pub invariant-loop-index : goal.invariant-loop-index

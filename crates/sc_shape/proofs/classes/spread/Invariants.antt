@@ -1,6 +1,7 @@
 use Rattle.std.proofs.Common.{◌+◌, ◌-◌, length, not}
 use Rattle.std.specs.List.{count_by}
-use Rattle.sc_shape.specs.Classes.{entry, IsMarked}
+use Rattle.sc_shape.specs.Classes.{entry}
+use Rattle.sc_shape.specs.inside.Classes.{IsMarked}
 use Rattle.sc_shape.proofs.Spreading.{Spreads}
 use Rattle.sc_shape.proofs.classes.spread.Given as goal
 

@@ -1,5 +1,6 @@
 use Rattle.std.proofs.Common.{length}
-use Rattle.sc_shape.specs.Classes.{entry, AreClassesBelow}
+use Rattle.sc_shape.specs.Classes.{entry}
+use Rattle.sc_shape.specs.inside.Classes.{AreClassesBelow}
 use Rattle.sc_shape.proofs.classes.spread_all.Given as goal
 
 abbrev pub invariant-loop-start : goal.invariant-loop-start

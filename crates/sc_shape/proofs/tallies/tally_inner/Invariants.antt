@@ -1,4 +1,5 @@
-use Rattle.sc_shape.specs.Tables.{AreTallies, is_own}
+use Rattle.sc_shape.specs.inside.Tables.{AreTallies}
+use Rattle.sc_shape.specs.Tables.{is_own}
 use Rattle.sc_shape.proofs.tallies.tally_inner.Given as goal
 
 abbrev pub invariant-loop-number : goal.invariant-loop-number

@@ -2,7 +2,7 @@ use Rattle.std.proofs.Common.{◌≡◌, ◌∙◌, ℕ, length, pos, ◌<ℤ◌
 use Rattle.std.specs.Int.{w128}
 use Rattle.sc_basis.specs.Products.{at, dot}
 use Rattle.sc_rows.specs.Lines.{row_of}
-use Rattle.sc_simplex.specs.Leaving.{IsBestRow, IsBest}
+use Rattle.sc_simplex.specs.inside.Leaving.{IsBestRow, IsBest}
 use Rattle.sc_simplex.specs.declared.leaving.Best.{Best}
 use Rattle.sc_simplex.proofs.OrderLaws.{best_taken, best_stays}
 use Rattle.sc_simplex.proofs.leaving.better.Goals as goal

@@ -4,11 +4,11 @@ use Rattle.sc_basis.specs.Products.{at}
 use Rattle.sc_basis.specs.Bases.{unit_basis}
 use Rattle.sc_rows.specs.Standing.{RowsStand, PricesStand, numbers_of}
 use Rattle.sc_simplex.specs.declared.column.KeyPivot.{KeyPivot}
-use Rattle.sc_simplex.specs.Evidence.{IsWideSomeValue, IsWideTold}
+use Rattle.sc_simplex.specs.inside.Evidence.{IsWideSomeValue, IsWideTold}
 use Rattle.sc_simplex.specs.Oracles.{ImprovesAt, NoneImproves}
-use Rattle.sc_simplex.specs.States.{IsState}
+use Rattle.sc_simplex.specs.inside.States.{IsState}
 use Rattle.sc_simplex.specs.Optima.{IsOptimum, IsStopped}
-use Rattle.sc_simplex.specs.Stops.{IsStopBy, IsMadeOf}
+use Rattle.sc_simplex.specs.inside.Stops.{IsStopBy, IsMadeOf}
 use Rattle.sc_rows.specs.Places.{IsWideBy}
 use Rattle.sc_rows.specs.declared.fault.RowFault.{RowFault}
 use Rattle.sc_simplex.proofs.StateLaws.{state_by}

@@ -3,7 +3,7 @@ use Rattle.sc_basis.specs.Products.{at}
 use Rattle.sc_basis.specs.Bases.{Column as Entries}
 use Rattle.sc_rows.specs.declared.fault.WideAt.{WideAt}
 use Rattle.sc_rows.specs.declared.prices.PriceRows.{PriceRows}
-use Rattle.sc_simplex.specs.States.{IsState}
+use Rattle.sc_simplex.specs.inside.States.{IsState}
 use Rattle.sc_simplex.proofs.solving.solve.Given as goal
 
 abbrev pub invariant-loop-turn : goal.invariant-loop-turn

@@ -6,8 +6,8 @@ use Rattle.sc_rows.specs.Lines.{row_of}
 use Rattle.sc_rows.specs.Standing.{numbers_of}
 use Rattle.sc_rows.specs.Evidence.{IsWideAlong, IsWidePivot, IsWidePricePivot}
 use Rattle.sc_rows.proofs.StandingLaws.{stand_together}
-use Rattle.sc_simplex.specs.Leaving.{IsLeastOrNone}
-use Rattle.sc_simplex.specs.Evidence.{IsWideFor}
+use Rattle.sc_simplex.specs.inside.Leaving.{IsLeastOrNone}
+use Rattle.sc_simplex.specs.inside.Evidence.{IsWideFor}
 use Rattle.sc_simplex.proofs.Exchanges.{fault_weaker, none_tie}
 use Rattle.sc_simplex.proofs.WideLaws.{value_for, along_for, pivot_for, prices_for}
 use Rattle.sc_simplex.proofs.state.exchange.Goals as goal

@@ -5,8 +5,8 @@ use Rattle.sc_basis.specs.Bases.{entry_of}
 use Rattle.sc_basis.specs.Pivots.{IsLeaving}
 use Rattle.sc_rows.specs.Standing.{numbers_of}
 use Rattle.sc_rows.specs.declared.fault.WideAt.{WideAt}
-use Rattle.sc_simplex.specs.Evidence.{IsWideFor, IsWideTold, speaks_of_column}
-use Rattle.sc_simplex.specs.States.{IsReady, RowsFollow, PricesFollow}
+use Rattle.sc_simplex.specs.inside.Evidence.{IsWideFor, IsWideTold, speaks_of_column}
+use Rattle.sc_simplex.specs.inside.States.{IsReady, RowsFollow, PricesFollow}
 use Rattle.sc_simplex.proofs.StateLaws.{ready, state_after, columns_few}
 use Rattle.sc_simplex.proofs.ToldLaws.{told_silent, told_spoken}
 use Rattle.sc_simplex.proofs.state.step.Goals as goal

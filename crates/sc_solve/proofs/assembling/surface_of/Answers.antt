@@ -1,7 +1,7 @@
 use Rattle.std.proofs.Common.{◌≡◌, ℕ, List, Option, None, length, replicate, arith, sym, ap, ◌∙◌}
 use Rattle.sc_assembly.specs.declared.parts.Part.{Part}
 use Rattle.sc_solve.specs.Solutions.{exchanged, last_items}
-use Rattle.sc_solve.specs.Assembling.{valued}
+use Rattle.sc_solve.specs.inside.Assembling.{valued}
 use Rattle.sc_solve.proofs.PolygonJournals.{length-last_items}
 use Rattle.sc_solve.proofs.PartLoops.{length-valued}
 use Rattle.sc_solve.proofs.assembling.surface_of.Goals as goal

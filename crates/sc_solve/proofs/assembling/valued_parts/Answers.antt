@@ -1,7 +1,7 @@
 use Rattle.std.proofs.Common.{◌<◌, ◌++◌, List, None, length, arith, sym, ap, ◌∙◌}
 use Rattle.std.proofs.lemmas.List.{get_or_default}
 use Rattle.sc_assembly.specs.declared.parts.Part.{Part}
-use Rattle.sc_solve.specs.Assembling.{part_of}
+use Rattle.sc_solve.specs.inside.Assembling.{part_of}
 use Rattle.sc_solve.proofs.PartLoops.{valued_more}
 use Rattle.sc_solve.proofs.assembling.valued_parts.Goals as goal
 

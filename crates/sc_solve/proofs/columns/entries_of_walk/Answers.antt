@@ -1,7 +1,7 @@
 use Rattle.std.proofs.Common.{ℕ, ◌++◌, ◌∷◌, [], List, ℤ, ap, sym, ◌∙◌, FitsSigned, to_z, of_z, to_z-of_z, rules}
 use Rattle.std.specs.Int.{w128}
 use Rattle.sc_theory.specs.Columns.{column}
-use Rattle.sc_solve.specs.EntryLaws.{entries_more, entries_same}
+use Rattle.sc_solve.proofs.EntrySteps.{entries_more, entries_same}
 use Rattle.sc_solve.proofs.columns.entries_of_walk.Goals as goal
 use Rattle.sc_solve.proofs.columns.entries_of_walk.Goals.{then-entry-ne0+in_ok-push, else-entry-ne0}
 

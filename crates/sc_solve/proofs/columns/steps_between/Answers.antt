@@ -1,5 +1,5 @@
 use Rattle.std.proofs.Common.{arith}
-use Rattle.sc_solve.specs.StepCounts.{step_between}
+use Rattle.sc_solve.specs.inside.StepCounts.{step_between}
 use Rattle.sc_solve.proofs.Counting.{next_counted}
 use Rattle.sc_solve.proofs.columns.steps_between.Goals as goal
 

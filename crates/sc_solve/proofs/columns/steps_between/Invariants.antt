@@ -1,6 +1,6 @@
 use Rattle.std.proofs.Common.{◌≡◌, ◌≤◌, drop, pos, ◌+ℤ◌}
 use Rattle.sc_theory.specs.Walks.{total_back}
-use Rattle.sc_solve.specs.StepCounts.{step_between}
+use Rattle.sc_solve.specs.inside.StepCounts.{step_between}
 use Rattle.sc_solve.proofs.columns.steps_between.Given as goal
 
 abbrev pub invariant-loop-next : goal.invariant-loop-next

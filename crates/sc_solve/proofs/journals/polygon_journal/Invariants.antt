@@ -1,5 +1,5 @@
 use Rattle.std.proofs.Common.{◌≡◌, map, take}
-use Rattle.sc_solve.specs.Assembling.{named_pivot}
+use Rattle.sc_solve.specs.inside.Assembling.{named_pivot}
 use Rattle.sc_solve.proofs.journals.polygon_journal.Given as goal
 
 abbrev pub invariant-loop-pivot : goal.invariant-loop-pivot

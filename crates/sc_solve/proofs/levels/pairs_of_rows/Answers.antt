@@ -1,7 +1,7 @@
 use Rattle.std.proofs.Common.{◌++◌, ◌∷◌, [], List, ap₂, refl, sym, ◌∙◌}
 use Rattle.std.proofs.lemmas.List.FromFn.{map-range_with_len_more}
 use Rattle.sc_weight.specs.declared.pair.Pair.{Pair}
-use Rattle.sc_solve.specs.PriceLevels.{pair_of_row}
+use Rattle.sc_solve.specs.inside.PriceLevels.{pair_of_row}
 use Rattle.sc_solve.proofs.levels.pairs_of_rows.Goals as goal
 
 pub loop-n-preserved : goal.loop-n-preserved

@@ -4,7 +4,7 @@ use Rattle.std.proofs.lemmas.List.FromFn.{length-map-range_with_len}
 use Rattle.sc_theory.specs.Prices.{pairs}
 use Rattle.sc_rows.specs.Places.{IsWideBy}
 use Rattle.sc_weight.specs.declared.pair.Pair.{Pair}
-use Rattle.sc_solve.specs.PriceLevels.{pair_of_row}
+use Rattle.sc_solve.specs.inside.PriceLevels.{pair_of_row}
 use Rattle.sc_solve.specs.Searches.{IsWidePrice}
 use Rattle.sc_solve.proofs.StepPriceLaws.{step_is, fault_is}
 use Rattle.sc_solve.proofs.levels.step_prices.Goals as goal

@@ -5,7 +5,8 @@ use Rattle.sc_weight.specs.Levels.{Levels}
 use Rattle.sc_weight.specs.declared.level.Level.TheVariants.{Fine}
 use Rattle.sc_theory.specs.Prices.{price}
 use Rattle.sc_solve.specs.PriceLevels.{list_at}
-use Rattle.sc_solve.specs.Lifts.{fine_in, IsWideSum}
+use Rattle.sc_solve.specs.inside.Lifts.{fine_in}
+use Rattle.sc_solve.specs.Lifts.{IsWideSum}
 use Rattle.sc_solve.proofs.Sizes.{greatest_same, turned_same}
 use Rattle.sc_solve.proofs.lifting.full_factor.Goals as goal
 

@@ -1,6 +1,6 @@
 use Rattle.std.proofs.Common.{FitsSigned, to_z-of_z, rules}
 use Rattle.std.specs.Int.{w128}
-use Rattle.sc_solve.specs.Lifts.{fine_in}
+use Rattle.sc_solve.specs.inside.Lifts.{fine_in}
 use Rattle.sc_solve.proofs.Sizes.{next_cell, all_cells}
 use Rattle.sc_solve.proofs.lifting.greatest_size.Goals as goal
 

@@ -1,4 +1,5 @@
-use Rattle.sc_solve.specs.Lifts.{fine_in, IsGreatestBefore}
+use Rattle.sc_solve.specs.inside.Lifts.{fine_in}
+use Rattle.sc_solve.proofs.Sizes.{IsGreatestBefore}
 use Rattle.sc_solve.proofs.lifting.greatest_size.Given as goal
 
 abbrev pub invariant-loop-cell : goal.invariant-loop-cell

@@ -3,8 +3,8 @@ use Rattle.std.specs.Int.{w128}
 use Rattle.sc_theory.specs.Walks.{IsStep}
 use Rattle.sc_weight.specs.declared.pair.Pair.{Pair}
 use Rattle.sc_tables.specs.Squares.{level_of}
-use Rattle.sc_solve.specs.PriceLevels.{levels_of}
-use Rattle.sc_solve.specs.Lifts.{fine_in}
+use Rattle.sc_solve.specs.inside.PriceLevels.{levels_of}
+use Rattle.sc_solve.specs.inside.Lifts.{fine_in}
 use Rattle.sc_solve.proofs.Sizes.{size_of_step}
 use Rattle.sc_solve.proofs.lifting.step_size.Goals as goal
 

@@ -2,7 +2,8 @@ use Rattle.std.proofs.Common.{sym, subst, FitsSigned, to_z-of_z, rules}
 use Rattle.std.specs.Int.{w128}
 use Rattle.sc_rows.specs.Places.{IsWideBy}
 use Rattle.sc_tables.specs.StepPrices.{price_in}
-use Rattle.sc_solve.specs.PriceLevels.{levels_of, price_levels, threshold_of}
+use Rattle.sc_solve.specs.inside.PriceLevels.{levels_of}
+use Rattle.sc_solve.specs.PriceLevels.{price_levels, threshold_of}
 use Rattle.sc_solve.specs.Searches.{IsWideSearch}
 use Rattle.sc_solve.proofs.SearchLaws.{match_same, table_fault_is}
 use Rattle.sc_solve.proofs.searching.cheap_at.Goals as goal

@@ -1,6 +1,6 @@
 use Rattle.std.proofs.Common.{subst}
 use Rattle.sc_solve.specs.PriceLevels.{price_levels, threshold_of}
-use Rattle.sc_solve.specs.Searches.{MatchCheap}
+use Rattle.sc_solve.specs.inside.Searches.{MatchCheap}
 use Rattle.sc_solve.proofs.PolygonPrices.{none_improves}
 use Rattle.sc_solve.proofs.SearchLaws.{answer_is}
 use Rattle.sc_solve.proofs.searching.improving_column.Goals as goal

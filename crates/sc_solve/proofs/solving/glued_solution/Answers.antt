@@ -5,7 +5,7 @@ use Rattle.sc_chain.specs.declared.polygon.Pivot.{Pivot}
 use Rattle.sc_fraction.specs.declared.frac.Frac.{Frac}
 use Rattle.sc_assembly.specs.Multiples.{AreValues}
 use Rattle.sc_solve.specs.Solutions.{last_items}
-use Rattle.sc_solve.specs.Assembling.{valued, IsMadeOf, IsPartStop}
+use Rattle.sc_solve.specs.inside.Assembling.{valued, IsMadeOf, IsPartStop}
 use Rattle.sc_solve.proofs.CertificateRanges.{lift_counts}
 use Rattle.sc_solve.proofs.EndingLaws.{rows_few, balance_of, end_rows, ending_values, solution_is, solution_readable, unglued_is}
 use Rattle.sc_solve.proofs.solving.glued_solution.Goals as goal

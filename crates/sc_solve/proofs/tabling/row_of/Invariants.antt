@@ -1,4 +1,4 @@
-use Rattle.sc_solve.specs.ListSteps.{IsRowOf}
+use Rattle.sc_solve.specs.inside.ListSteps.{IsRowOf}
 use Rattle.sc_solve.proofs.tabling.row_of.Given as goal
 
 abbrev pub invariant-loop-place : goal.invariant-loop-place

@@ -1,4 +1,4 @@
-use Rattle.sc_solve.specs.ListSteps.{AreRowsOf}
+use Rattle.sc_solve.specs.inside.ListSteps.{AreRowsOf}
 use Rattle.sc_solve.proofs.tabling.rows_of.Given as goal
 
 abbrev pub invariant-loop-start : goal.invariant-loop-start

@@ -1,6 +1,6 @@
 use Rattle.std.proofs.Common.{ℕ, subst}
 use Rattle.sc_theory.specs.Chains.{positions}
-use Rattle.sc_solve.specs.ListSteps.{AreRowsOf}
+use Rattle.sc_solve.specs.inside.ListSteps.{AreRowsOf}
 use Rattle.sc_solve.proofs.ListTotals.{vouch_is, distances_are}
 use Rattle.sc_solve.proofs.ListRows.{rows_fit, entry_is}
 use Rattle.sc_solve.proofs.tabling.tables_of.Goals as goal

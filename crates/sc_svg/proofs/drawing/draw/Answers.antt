@@ -3,7 +3,7 @@ use Rattle.sc_algebra.specs.Permutations.{is_least_for}
 use Rattle.sc_algebra.proofs.Sums.{count-le}
 use Rattle.sc_theory.specs.Fatgraphs.{turn, vertices}
 use Rattle.sc_theory.proofs.FatgraphLaws.{turn_permutes}
-use Rattle.sc_svg.specs.LaidOut.{AreLaidBelow, AreLeastOfOrbits}
+use Rattle.sc_svg.specs.inside.LaidOut.{AreLaidBelow, AreLeastOfOrbits}
 use Rattle.sc_svg.proofs.Orbits.{order_inside}
 use Rattle.sc_svg.proofs.Drawn.{lasts_inside, drawn_from}
 use Rattle.sc_svg.proofs.drawing.draw.Goals as goal

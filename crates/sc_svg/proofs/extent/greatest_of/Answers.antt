@@ -1,7 +1,7 @@
 use Rattle.std.proofs.Common.{sym, ◌∙◌, subst, take, ◌+◌, arith}
 use Rattle.std.proofs.lemmas.Bool.{false≢true}
 use Rattle.sc_svg.specs.Fans.{IsGreatest}
-use Rattle.sc_svg.specs.Extents.{IsBounded}
+use Rattle.sc_svg.specs.inside.Extents.{IsBounded}
 use Rattle.sc_svg.specs.declared.extent.Extent.{Extent}
 use Rattle.sc_svg.proofs.Greatest.{greatest_of_none, greatest_next, greatest_stays, not_greater}
 use Rattle.sc_svg.proofs.extent.greatest_of.Goals as goal

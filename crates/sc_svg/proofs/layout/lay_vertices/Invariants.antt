@@ -2,7 +2,7 @@ use Rattle.std.proofs.Common.{◌≡◌, length}
 use Rattle.sc_algebra.specs.Sums.{count_below}
 use Rattle.sc_algebra.specs.Permutations.{is_least_for}
 use Rattle.sc_theory.specs.Fatgraphs.{turn}
-use Rattle.sc_svg.specs.LaidOut.{AreLaidBelow}
+use Rattle.sc_svg.specs.inside.LaidOut.{AreLaidBelow}
 use Rattle.sc_svg.proofs.layout.lay_vertices.Given as goal
 
 abbrev pub invariant-loop-start : goal.invariant-loop-start

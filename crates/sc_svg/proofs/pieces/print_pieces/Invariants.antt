@@ -1,6 +1,6 @@
 use Rattle.std.proofs.Common.{◌≡◌, ◌++◌, take}
 use Rattle.std.specs.List.{flat_map}
-use Rattle.sc_svg.specs.Pieces.{piece_text}
+use Rattle.sc_svg.specs.inside.Pieces.{piece_text}
 use Rattle.sc_svg.proofs.pieces.print_pieces.Given as goal
 
 abbrev pub invariant-loop-piece : goal.invariant-loop-piece

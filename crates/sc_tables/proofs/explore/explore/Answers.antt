@@ -1,8 +1,9 @@
 use Rattle.std.proofs.Common.{◌≡◌, ◌+◌, ◌<◌, ℕ, List, length, get_or, None, arith, sym, subst, ◌∙◌}
 use Rattle.std.proofs.lemmas.Result.{err_from_is_err_and}
 use Rattle.sc_tables.specs.declared.search.Node.{Node}
-use Rattle.sc_tables.specs.Searches.{AllReach, IsStop, IsGrowing, IsNext}
-use Rattle.sc_tables.specs.States.{IsState}
+use Rattle.sc_tables.specs.inside.Searches.{AllReach, IsStop, IsGrowing}
+use Rattle.sc_tables.specs.Searches.{IsNext}
+use Rattle.sc_tables.specs.inside.States.{IsState}
 use Rattle.sc_tables.proofs.Best.{at_none}
 use Rattle.sc_tables.proofs.States.{first_state, next_state, still_done}
 use Rattle.sc_tables.proofs.explore.explore.Goals as goal

@@ -1,4 +1,4 @@
-use Rattle.sc_tables.specs.States.{IsState}
+use Rattle.sc_tables.specs.inside.States.{IsState}
 use Rattle.sc_tables.proofs.explore.explore.Given as goal
 
 abbrev pub invariant-loop-done : goal.invariant-loop-done

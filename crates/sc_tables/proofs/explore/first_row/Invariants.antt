@@ -1,4 +1,4 @@
-use Rattle.sc_tables.specs.States.{IsFirstRow}
+use Rattle.sc_tables.specs.inside.States.{IsFirstRow}
 use Rattle.sc_tables.proofs.explore.first_row.Given as goal
 
 abbrev pub invariant-loop-place : goal.invariant-loop-place

@@ -1,4 +1,4 @@
-use Rattle.sc_tables.specs.Searches.{IsBest}
+use Rattle.sc_tables.specs.inside.Searches.{IsBest}
 use Rattle.sc_tables.proofs.search.best_into.Given as goal
 
 abbrev pub invariant-loop-node : goal.invariant-loop-node

@@ -1,7 +1,8 @@
 use Rattle.std.proofs.Common.{◌≡◌, ℕ, List, ◌∷◌, [], ◌++◌, length, Some, None, sym, subst, ◌∙◌, slice_get}
 use Rattle.sc_tables.specs.declared.search.Node.{Node}
 use Rattle.sc_tables.specs.Totals.{IsBelow, IsAtMost}
-use Rattle.sc_tables.specs.Searches.{Grows, IsGrowing, IsNext}
+use Rattle.sc_tables.specs.inside.Searches.{Grows, IsGrowing}
+use Rattle.sc_tables.specs.Searches.{IsNext}
 use Rattle.sc_tables.proofs.Best.{covers-along, found-along}
 use Rattle.sc_tables.proofs.Growing.{next_start, next_none, next_kept, next_new, walks_last, grows_last}
 use Rattle.sc_tables.proofs.search.next_entry.Goals as goal

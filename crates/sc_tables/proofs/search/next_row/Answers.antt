@@ -1,6 +1,7 @@
 use Rattle.std.proofs.Common.{◌≡◌, ℕ, ◌+◌, List, length, get_or, Option, None, sym, subst}
-use Rattle.sc_tables.specs.Searches.{IsGrowing, IsNext, AreNextBelow}
-use Rattle.sc_tables.proofs.NextRows.{row_entry, row_step}
+use Rattle.sc_tables.specs.inside.Searches.{IsGrowing}
+use Rattle.sc_tables.specs.Searches.{IsNext}
+use Rattle.sc_tables.proofs.NextRows.{AreNextBelow, row_entry, row_step}
 use Rattle.sc_tables.proofs.search.next_row.Goals as goal
 
 pub next_entry-requires-clause-entry : goal.next_entry-requires-clause-entry

@@ -1,4 +1,4 @@
-use Rattle.sc_tables.specs.Searches.{AreNextBelow}
+use Rattle.sc_tables.proofs.NextRows.{AreNextBelow}
 use Rattle.sc_tables.proofs.search.next_row.Given as goal
 
 abbrev pub invariant-loop-place : goal.invariant-loop-place

@@ -1,4 +1,4 @@
-use Rattle.sc_tables.specs.Splits.{IsLeastPlace}
+use Rattle.sc_tables.specs.inside.Splits.{IsLeastPlace}
 use Rattle.sc_tables.proofs.splitting.least_place.Given as goal
 
 abbrev pub invariant-loop-place : goal.invariant-loop-place

@@ -1,6 +1,6 @@
 use Rattle.std.proofs.Common.{◌≡◌, List, ℕ, ◌-◌, ◌++◌, length, take, drop, ap, sym, subst, ◌∙◌}
 use Rattle.std.proofs.lemmas.Bool.{false≢true}
-use Rattle.sc_tables.specs.Splits.{IsPolygonOf}
+use Rattle.sc_tables.specs.inside.Splits.{IsPolygonOf}
 use Rattle.sc_tables.proofs.SplitSteps.{rest_whole, polygon_at}
 use Rattle.sc_tables.proofs.splitting.polygon_of.Goals as goal
 use Rattle.sc_tables.proofs.splitting.polygon_of.Goals.{After-of}

@@ -1,7 +1,7 @@
 use Rattle.std.proofs.Common.{◌≡◌, List, ℕ, ◌+◌, [], get_or, drop, arith, subst, ap, ◌∙◌}
 use Rattle.sc_theory.specs.Walks.{walks_total}
-use Rattle.sc_tables.specs.Splits.{IsPolygonOf, IsSplitSoFar}
-use Rattle.sc_tables.proofs.SplitSteps.{drop_here, drop_all, may_return, split_step, last_steps}
+use Rattle.sc_tables.specs.inside.Splits.{IsPolygonOf}
+use Rattle.sc_tables.proofs.SplitSteps.{IsSplitSoFar, drop_here, drop_all, may_return, split_step, last_steps}
 use Rattle.sc_tables.proofs.splitting.polygons_of.Goals as goal
 
 pub pass-requires-clause-returns : goal.pass-requires-clause-returns

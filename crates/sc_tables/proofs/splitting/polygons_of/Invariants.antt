@@ -1,5 +1,5 @@
 use Rattle.std.proofs.Common.{drop}
-use Rattle.sc_tables.specs.Splits.{IsSplitSoFar}
+use Rattle.sc_tables.proofs.SplitSteps.{IsSplitSoFar}
 use Rattle.sc_tables.proofs.splitting.polygons_of.Given as goal
 
 abbrev pub invariant-loop-position : goal.invariant-loop-position

@@ -4,7 +4,8 @@ use Rattle.sc_weight.specs.Evidence.{IsFirstWideLevel}
 use Rattle.sc_whole.specs.declared.checked.Op.TheVariants.{Add}
 use Rattle.sc_tables.specs.Squares.{level_of}
 use Rattle.sc_tables.specs.StepPrices.{HasStep, price_in}
-use Rattle.sc_tables.specs.CheapPolygons.{round, total_after, IsWideWalk}
+use Rattle.sc_tables.specs.CheapPolygons.{round, IsWideWalk}
+use Rattle.sc_tables.specs.inside.CheapPolygons.{total_after}
 use Rattle.sc_tables.proofs.PolygonTotals.{step_at, total-next, wide_step}
 use Rattle.sc_tables.proofs.tables.add_step.Given.{Over}
 use Rattle.sc_tables.proofs.tables.add_step.Goals as goal

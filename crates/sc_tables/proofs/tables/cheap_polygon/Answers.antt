@@ -1,14 +1,13 @@
 use Rattle.std.proofs.Common.{◌≡◌, ◌<◌, ℕ, ◌+◌, ◌*◌, List, Option, None, IfNone, Vec, Global, get_or, length, arith, sym, subst, ◌∙◌}
 use Rattle.sc_theory.specs.Chains.{positions}
-use Rattle.sc_tables.specs.Rows.{IsSearched}
+use Rattle.sc_tables.proofs.Rows.{IsSearched, all_at_least, are_least, vouch}
 use Rattle.sc_tables.specs.StepPrices.{price_in}
-use Rattle.sc_tables.specs.Trails.{AreTotalsAfter}
-use Rattle.sc_tables.specs.CheapPolygons.{AreSearched, entry_in}
+use Rattle.sc_tables.specs.inside.Trails.{AreTotalsAfter}
+use Rattle.sc_tables.proofs.SearchedRows.{AreSearched, next_searched, all_rows}
+use Rattle.sc_tables.specs.CheapPolygons.{entry_in}
 use Rattle.sc_tables.specs.declared.search.Node.{Node}
-use Rattle.sc_tables.proofs.SearchedRows.{next_searched, all_rows}
-use Rattle.sc_tables.proofs.Rows.{all_at_least, are_least, vouch}
 use Rattle.std.specs.Option.{option_map}
-use Rattle.sc_tables.specs.States.{IsDone}
+use Rattle.sc_tables.specs.inside.States.{IsDone}
 use Rattle.sc_tables.proofs.tables.cheap_polygon.Given.{Over}
 use Rattle.sc_tables.proofs.tables.cheap_polygon.Goals as goal
 use Rattle.sc_tables.proofs.tables.cheap_polygon.Goals.{After-loop-start}

@@ -2,9 +2,9 @@ use Rattle.std.proofs.Common.{◌<◌, ◌≤◌, ℕ, List, length, Option, IfS
 use Rattle.std.proofs.lemmas.Option.{slice_get_within}
 use Rattle.sc_theory.specs.Chains.{positions}
 use Rattle.sc_tables.specs.declared.search.Node.{Node}
-use Rattle.sc_tables.specs.Searches.{Closes}
-use Rattle.sc_tables.specs.Trails.{AreLinked, ReadsTo}
-use Rattle.sc_tables.specs.CheapPolygons.{ShowsStop}
+use Rattle.sc_tables.specs.inside.Searches.{Closes}
+use Rattle.sc_tables.specs.inside.Trails.{AreLinked, ReadsTo}
+use Rattle.sc_tables.specs.inside.CheapPolygons.{ShowsStop}
 use Rattle.sc_tables.proofs.ReadingBack.{linked_from, closed_below, stop_shown}
 use Rattle.sc_tables.proofs.tables.closed_walk.Given.{Over}
 use Rattle.sc_tables.proofs.tables.closed_walk.Goals as goal

@@ -1,6 +1,6 @@
 use Rattle.std.proofs.Common.{◌≡◌}
 use Rattle.sc_tables.specs.StepPrices.{price_in}
-use Rattle.sc_tables.specs.CheapPolygons.{total_after}
+use Rattle.sc_tables.specs.inside.CheapPolygons.{total_after}
 use Rattle.sc_tables.proofs.tables.polygon_total.Given as goal
 
 abbrev pub invariant-loop-place : goal.invariant-loop-place

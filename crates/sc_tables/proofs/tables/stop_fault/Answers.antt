@@ -2,7 +2,8 @@ use Rattle.std.proofs.Common.{ℕ, List, sym, subst}
 use Rattle.sc_tables.specs.StepPrices.{price_in}
 use Rattle.sc_tables.specs.declared.search.Stop.{Stop}
 use Rattle.sc_tables.specs.declared.tables.TableFault.TheVariants.{Wide}
-use Rattle.sc_tables.specs.CheapPolygons.{IsWideWalk, ShowsStop}
+use Rattle.sc_tables.specs.CheapPolygons.{IsWideWalk}
+use Rattle.sc_tables.specs.inside.CheapPolygons.{ShowsStop}
 use Rattle.sc_tables.proofs.ReadingBack.{wide_walk}
 use Rattle.sc_tables.proofs.tables.stop_fault.Goals as goal
 

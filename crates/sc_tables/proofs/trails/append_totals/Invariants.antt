@@ -1,4 +1,4 @@
-use Rattle.sc_tables.specs.Trails.{AreTotalsAfter}
+use Rattle.sc_tables.specs.inside.Trails.{AreTotalsAfter}
 use Rattle.sc_tables.proofs.trails.append_totals.Given as goal
 
 abbrev pub invariant-loop-entry : goal.invariant-loop-entry

@@ -1,7 +1,7 @@
 use Rattle.std.proofs.Common.{◌≡◌, ℕ, List, get_or, sym, subst, ap, ◌∙◌, refl, arith, reverse}
 use Rattle.std.proofs.lemmas.Option.{slice_get_read, slice_get-get_or}
-use Rattle.sc_tables.specs.Trails.{IsReadTo, ReadsTo}
-use Rattle.sc_tables.proofs.ReadingBack.{read_next, read_last}
+use Rattle.sc_tables.proofs.ReadingBack.{IsReadTo, read_next, read_last}
+use Rattle.sc_tables.specs.inside.Trails.{ReadsTo}
 use Rattle.sc_tables.proofs.trails.read_back.Goals as goal
 
 pub loop-here-preserved : goal.loop-here-preserved

@@ -1,4 +1,4 @@
-use Rattle.sc_tables.specs.Trails.{IsReadTo}
+use Rattle.sc_tables.proofs.ReadingBack.{IsReadTo}
 use Rattle.sc_tables.proofs.trails.read_back.Given as goal
 
 abbrev pub invariant-loop-here : goal.invariant-loop-here

@@ -1,6 +1,6 @@
 use Rattle.std.proofs.Common.{◌≡◌, ℕ, List, ◌-◌, length, take, arith, ap, sym, ◌∙◌, subst, refl}
 use Rattle.std.proofs.lemmas.List.{length-append}
-use Rattle.sc_two.specs.Parts.{IsPart, IsFollowed}
+use Rattle.sc_two.specs.inside.Parts.{IsPart, IsFollowed}
 use Rattle.sc_two.proofs.Cuts.{search_begins, search_goes_on, search_counts, search_finds, search_ends, cut_shorter}
 use Rattle.sc_two.proofs.part.first_part.Goals as goal
 

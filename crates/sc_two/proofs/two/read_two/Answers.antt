@@ -2,8 +2,8 @@ use Rattle.std.proofs.Common.{◌≡◌, ◌+◌, arith, subst, sym, List, ℕ, 
 use Rattle.std.proofs.lemmas.Result.{err_from_is_err_and}
 use Rattle.sc_chain.proofs.ReadingLaws.{lines_le}
 use Rattle.sc_two.specs.TwoTexts.{IsTwoText}
-use Rattle.sc_two.specs.Parts.{IsPart, IsFollowed}
-use Rattle.sc_two.specs.Behind.{AreLinesBehind}
+use Rattle.sc_two.specs.inside.Parts.{IsPart, IsFollowed}
+use Rattle.sc_two.specs.inside.Behind.{AreLinesBehind}
 use Rattle.sc_two.proofs.Places.{IsFault, before, followed_by, whole_if_none, none_separates, separates_again, two_parts, good_or_wrong, fault_in_front, fault_in_back, malformed_of, refused_of}
 use Rattle.sc_two.proofs.two.read_two.Goals as goal
 

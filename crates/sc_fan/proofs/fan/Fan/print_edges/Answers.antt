@@ -6,7 +6,7 @@ use Rattle.sc_line.specs.Printing.{AppendsPart}
 use Rattle.sc_cone.specs.declared.Quadrant.TheVariants.{Lower, Upper}
 use Rattle.sc_cone.specs.Cones.{quadrant_chain}
 use Rattle.sc_fan.specs.FanRead.{fan_said}
-use Rattle.sc_fan.specs.Printing.{counted_edges_text}
+use Rattle.sc_fan.specs.inside.Printing.{counted_edges_text}
 use Rattle.sc_fan.proofs.Pieces.{edges_pieces}
 use Rattle.sc_fan.proofs.Ranges.{quadrant_in_range, edges_in_range}
 use Rattle.sc_fan.proofs.fan.Fan.print_edges.Goals as goal

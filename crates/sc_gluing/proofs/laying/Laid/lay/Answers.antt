@@ -1,6 +1,5 @@
 use Rattle.std.proofs.Common.{◌≡◌, ℕ, length, arith, subst}
-use Rattle.sc_gluing.specs.Laying.{IsLaidSoFar}
-use Rattle.sc_gluing.proofs.LaidCopies.{whole_laid}
+use Rattle.sc_gluing.proofs.LaidCopies.{IsLaidSoFar, whole_laid}
 use Rattle.sc_gluing.proofs.laying.Laid.lay.Goals as goal
 
 pub returns-clause-laid : goal.returns-clause-laid

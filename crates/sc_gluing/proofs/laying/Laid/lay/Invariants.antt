@@ -1,4 +1,4 @@
-use Rattle.sc_gluing.specs.Laying.{IsLaidSoFar}
+use Rattle.sc_gluing.proofs.LaidCopies.{IsLaidSoFar}
 use Rattle.sc_gluing.proofs.laying.Laid.lay.Given as goal
 
 abbrev pub invariant-loop-place : goal.invariant-loop-place

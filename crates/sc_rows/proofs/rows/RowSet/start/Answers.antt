@@ -1,5 +1,6 @@
 use Rattle.std.proofs.Common.{◌≡◌, ◌<◌, ◌∙◌, arith, subst, ℕ, get_or}
-use Rattle.sc_rows.specs.Lines.{IsUnitLine, no_line}
+use Rattle.sc_rows.specs.inside.Lines.{IsUnitLine}
+use Rattle.sc_rows.specs.Lines.{no_line}
 use Rattle.sc_rows.proofs.RowLaws.{are_unit_rows}
 use Rattle.sc_rows.proofs.StandingLaws.{unit_rows_stand}
 use Rattle.sc_rows.proofs.rows.RowSet.start.Goals as goal

@@ -1,5 +1,6 @@
 use Rattle.std.proofs.Common.{◌≡◌, ℕ, ◌<◌, length, get_or}
-use Rattle.sc_rows.specs.Lines.{no_line, IsUnitLine}
+use Rattle.sc_rows.specs.Lines.{no_line}
+use Rattle.sc_rows.specs.inside.Lines.{IsUnitLine}
 use Rattle.sc_rows.proofs.rows.RowSet.start.Given as goal
 
 abbrev pub invariant-loop-index : goal.invariant-loop-index

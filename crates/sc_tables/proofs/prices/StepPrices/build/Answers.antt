@@ -1,6 +1,5 @@
 use Rattle.std.proofs.Common.{◌≡◌, ◌*◌, ◌+◌, List, Option, sym, subst, arith}
-use Rattle.sc_tables.specs.StepPrices.{AreCells}
-use Rattle.sc_tables.proofs.StepCells.{next_cell, for_chain, prices_are}
+use Rattle.sc_tables.proofs.StepCells.{AreCells, next_cell, for_chain, prices_are}
 use Rattle.sc_tables.proofs.prices.StepPrices.build.Goals as goal
 
 pub loop-cell-preserved : goal.loop-cell-preserved

@@ -1,4 +1,4 @@
-use Rattle.sc_tables.specs.StepPrices.{AreCells}
+use Rattle.sc_tables.proofs.StepCells.{AreCells}
 use Rattle.sc_tables.proofs.prices.StepPrices.build.Given as goal
 
 abbrev pub invariant-loop-cell : goal.invariant-loop-cell

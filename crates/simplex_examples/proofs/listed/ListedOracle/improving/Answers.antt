@@ -3,7 +3,7 @@ use Rattle.sc_basis.specs.Bases.{IsAscending}
 use Rattle.sc_rows.specs.declared.prices.PriceRows.{PriceRows}
 use Rattle.sc_simplex.specs.Oracles.{ImprovesAt}
 use Rattle.simplex_examples.specs.declared.listing.Listing.{Listing}
-use Rattle.simplex_examples.specs.Improving.{IsImprovingOrNone}
+use Rattle.simplex_examples.specs.inside.Improving.{IsImprovingOrNone}
 use Rattle.simplex_examples.specs.ProblemLaws.{listed_ascending, columns_of}
 use Rattle.simplex_examples.proofs.listed.ListedOracle.improving.Goals as goal
 

@@ -6,7 +6,8 @@ use Rattle.sc_line.specs.Forms.{literal_due, and_then}
 use Rattle.sc_fan.specs.declared.corner.Corner.{Corner}
 use Rattle.sc_fan.specs.Fans.{edge_line, prices_due}
 use Rattle.sc_fan.specs.Blocks.{headed_due, blocks_due}
-use Rattle.sc_fan.specs.Printing.{Pairs, edge_pairs}
+use Rattle.sc_fan.specs.Printing.{Pairs}
+use Rattle.sc_fan.specs.inside.Printing.{edge_pairs}
 
 -- an edge's number, and its list for so many words and these pairs
 abbrev pub numbered_due : ℕ → Pairs → ℕ → Format Prices

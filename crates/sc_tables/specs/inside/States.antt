@@ -9,7 +9,8 @@ use Rattle.sc_tables.specs.Totals.{open_total, IsAtMost}
 use Rattle.sc_tables.specs.StepPrices.{price_in}
 use Rattle.sc_tables.specs.declared.search.Node.{Node}
 use Rattle.sc_tables.specs.declared.search.Stop.{Stop}
-use Rattle.sc_tables.specs.Searches.{AreWalks, IsStop, AreEnds, Lower}
+use Rattle.sc_tables.specs.inside.Searches.{AreWalks, IsStop, AreEnds}
+use Rattle.sc_tables.specs.Searches.{Lower}
 
 -- the first n entries of a row that has the walk number 0 at s, and none elsewhere
 pub record IsFirstRow (s n : ℕ) (row : List (Option ℕ)) : Type 0 where

@@ -9,7 +9,7 @@ use Rattle.sc_tables.specs.Walks.{WalksAlong, end_of, LeadsTo}
 use Rattle.sc_tables.specs.Totals.{open_total}
 use Rattle.sc_tables.specs.StepPrices.{AreForChain, price_in}
 use Rattle.sc_tables.specs.declared.search.Node.{Node}
-use Rattle.sc_tables.specs.Searches.{AreWalks}
+use Rattle.sc_tables.specs.inside.Searches.{AreWalks}
 
 -- the total of the walk that an entry names, and none where it names none
 abbrev pub IsTotalOf : {W : Type 0} → List (Node W) → Option ℕ → Option W → Type 0
@@ -40,17 +40,3 @@ pub record AreLinked {W : Type 0} (nodes : List (Node W)) : Type 0 where
   pub earlier : (n : ℕ) (x : Node W) → 0 < n → slice_get nodes n ≡ Some x → x.before < n
   pub place : (n : ℕ) (x : Node W) → slice_get nodes n ≡ Some x → x.place ≤ MAX_POSITIONS
   pub steps : (n : ℕ) (x : Node W) → slice_get nodes n ≡ Some x → x.steps ≤ MAX_POSITIONS
-
--- the walk of the node x is that of the node y and the list behind it
-pub record GoesTo {W : Type 0} (levels : W → Levels) (c : Chain) (t : Square W) (s : ℕ) (y x : Node W) (rest : List ℕ) : Type 0 where
-  pub walks : WalksAlong c y.place rest
-  pub away : AllByRecursion (λ i. s ≢ i) rest
-  pub ends : end_of y.place rest ≡ x.place
-  pub total : levels_sum (levels y.total) (open_total (price_in levels t) y.place rest) ≡ levels x.total
-  pub few : y.steps + length rest ≤ x.steps
-
--- read back from the node n to the node m
-pub record IsReadTo {W : Type 0} (levels : W → Levels) (nodes : List (Node W)) (n m : ℕ) (back : List ℕ) : Type 0 where
-  pub inside : m < length nodes
-  pub goes : (c : Chain) (t : Square W) (s most : ℕ) (x y : Node W) → AreForChain c t → AreWalks levels t s most nodes → slice_get nodes n ≡ Some x → slice_get nodes m ≡ Some y →
-      GoesTo levels c t s y x (reverse back)

@@ -20,7 +20,7 @@ use Rattle.sc_simplex.specs.declared.solving.SimplexFault.TheVariants as simplex
 use Rattle.sc_simplex.specs.Optima.{AreValues}
 use Rattle.sc_solve.specs.ListTables.{AreDistances}
 use Rattle.sc_solve.specs.Solutions.{pivots_of, last_basis, IsJournalOf, IsOptimalEnd, distinct_polygons}
-use Rattle.sc_solve.specs.Assembling.{named_pivot}
+use Rattle.sc_solve.specs.inside.Assembling.{named_pivot}
 use Rattle.sc_solve.specs.declared.assembling.PartStop.{PartStop}
 use Rattle.sc_solve.specs.declared.assembling.PartStop.TheVariants as part_stops
 use Rattle.sc_solve.specs.declared.ending.Ending.{Ending}
@@ -31,6 +31,7 @@ use Rattle.sc_solve.specs.declared.solution.SolveFault.{SolveFault}
 use Rattle.sc_solve.specs.declared.solution.SolveFault.TheVariants.{Budget, Wide, Sides, Memory}
 
 -- ---- the optimal basis
+
 -- a lawful journal to an optimal basis, with its prices and the values of its items, and the number of different polygons
 pub record IsEndingBy (c : Chain) (budget : ℕ) (journal : List Pivot) (prices : PriceRows) (values : List Frac) (columns : ℕ) : Type 0 where
   pub lawful : IsJournalOf c budget journal
@@ -51,6 +52,7 @@ pub record IsEndingOf (o : Optimum) (e : Ending) : Type 0 where
   pub columns : e.columns ≡ length o.columns
 
 -- ---- what stops the search
+
 abbrev pub ArePolygonKeys : Chain → List KeyPivot → Type 0
 ArePolygonKeys c journal = AllByRecursion (λ k. IsPolygon c k.key.items) journal
 
@@ -76,6 +78,7 @@ IsStopOf simplex_faults.Memory (Sides pivots part so_far next) = ⊥
 IsStopOf simplex_faults.Memory Memory = Unit {0}
 
 -- ---- the solution of parts that are there
+
 -- the solution has this surface with its value, this list with its tables, and what is known of the basis
 pub record IsCertified (c : Chain) (e : Ending) (list : Prices) (f : Surface) (s : Solution) : Type 0 where
   pub surface_is : s.fatgraph ≡ f
@@ -92,6 +95,7 @@ pub record IsCertified (c : Chain) (e : Ending) (list : Prices) (f : Surface) (s
   pub least_totals : AreDistances c list s.tables
 
 -- ---- why there is none
+
 -- all pivots of a budget are made
 abbrev pub is_budget : SolveFault → Bool
 is_budget (Budget journal improving) = true

@@ -5,7 +5,8 @@ use Rattle.sc_basis.specs.Products.{at}
 use Rattle.sc_basis.specs.Bases.{Column}
 use Rattle.sc_rows.specs.Lines.{Line}
 use Rattle.sc_rows.specs.Standing.{entries_of, gap_at}
-use Rattle.sc_rows.specs.Updates.{IsUpdated, IsWideUpdate}
+use Rattle.sc_rows.specs.inside.Updates.{IsUpdated}
+use Rattle.sc_rows.specs.Updates.{IsWideUpdate}
 use Rattle.sc_rows.specs.Evidence.{IsWideGap}
 use Rattle.sc_rows.specs.declared.fault.WideAt.{WideAt}
 use Rattle.sc_rows.specs.declared.prices.PriceRow.{PriceRow}

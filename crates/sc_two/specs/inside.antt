@@ -1,0 +1,3 @@
+-- Definitions that no clause of a public function needs.
+pub mod Behind
+pub mod Parts
