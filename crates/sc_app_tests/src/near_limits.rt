@@ -191,6 +191,30 @@ fn bears_a_polygon_through_64_positions(rt: HostRuntime) -> Result<(), Fail> {
     Ok(())
 }
 
+/// A chain of eight annuli between the words `a` and `A`.
+const EIGHT_ANNULI: &[u8] = b"a\na\na\na\na\na\na\na\nA\nA\nA\nA\nA\nA\nA\nA\n";
+
+/// Up to the first list, the fan of that chain taken twice. In each direction annuli bound the chain, so all values are
+/// 0. A list that is tight at two directions of a quadrant is so in the whole quadrant, which therefore is one cone.
+const FAN_OF_ANNULI: &[u8] = b"scallop fan 1\nfirst 16\n\
+    word 1 a\nword 1 a\nword 1 a\nword 1 a\nword 1 a\nword 1 a\nword 1 a\nword 1 a\n\
+    word 1 A\nword 1 A\nword 1 A\nword 1 A\nword 1 A\nword 1 A\nword 1 A\nword 1 A\n\
+    second 16\n\
+    word 1 a\nword 1 a\nword 1 a\nword 1 a\nword 1 a\nword 1 a\nword 1 a\nword 1 a\n\
+    word 1 A\nword 1 A\nword 1 A\nword 1 A\nword 1 A\nword 1 A\nword 1 A\nword 1 A\n\
+    corners 3\ncorner 0 -1 0/1\ncorner 1 0 0/1\ncorner 0 1 0/1\nedges 2\nedge 0\nscale ";
+
+#[test]
+fn bears_a_ball_of_32_words(rt: HostRuntime) -> Result<(), Fail> {
+    let mut input = Vec::from_slice(rt.alloc(), EIGHT_ANNULI)?;
+    input.extend_from_slice(b"/\n")?;
+    input.extend_from_slice(EIGHT_ANNULI)?;
+    let (status, fan) = answer(rt.alloc(), "ball", input)?;
+    assert_eq!(rt; status, Status::Done);
+    assert!(rt; fan.as_slice().starts_with(FAN_OF_ANNULI));
+    Ok(())
+}
+
 #[test]
 fn reads_to_its_limit_and_no_further(rt: HostRuntime) -> Result<(), Fail> {
     let ended = Status::Malformed {
