@@ -83,9 +83,9 @@ fn note_of_status(status: &Status) -> Note
 fn write_number<E: Sink>(number: Option<u32>, notes: &mut E) -> Result<(), Failed>
     ensures all { OnOk result (Took (E.taken notes.old) (E.taken notes.new) (number_text number)) }
     ensures part { OnErr result (TookPart (E.taken notes.old) (E.taken notes.new) (number_text number)) }
-    ensures fault { OnErr result (Rose (E.faults notes.old) (E.faults notes.new) (E.stands notes.new)) }
+    ensures fault { OnErr result (Rose (E.faults notes.old) (E.faults notes.new) (E.saturated notes.new)) }
     ensures never_falls { E.faults notes.old ≤ E.faults notes.new }
-    ensures stands_on { IsTrue (E.stands notes.old) → IsTrue (E.stands notes.new) }
+    ensures stays_saturated { IsTrue (E.saturated notes.old) → IsTrue (E.saturated notes.new) }
 {
     match number {
         None => write_all(notes, b""),
@@ -97,7 +97,7 @@ fn write_number<E: Sink>(number: Option<u32>, notes: &mut E) -> Result<(), Faile
 pub fn write_note<E: Sink>(status: &Status, notes: &mut E) -> Result<(), Failed>
     ensures all { OnOk result (Took (E.taken notes.old) (E.taken notes.new) (note_of status.now)) }
     ensures part { OnErr result (TookPart (E.taken notes.old) (E.taken notes.new) (note_of status.now)) }
-    ensures fault { OnErr result (Rose (E.faults notes.old) (E.faults notes.new) (E.stands notes.new)) }
+    ensures fault { OnErr result (Rose (E.faults notes.old) (E.faults notes.new) (E.saturated notes.new)) }
 {
     let note = note_of_status(status);
     write_all(notes, note.before)?;

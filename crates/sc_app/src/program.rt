@@ -54,7 +54,7 @@ fn respond(alloc: Global, command: Command, input: &[u8]) -> Result<Answer, Allo
 /// Hands over the text of an answer.
 fn deliver<O: Sink>(answer: &Answer, out: &mut O) -> Status
     ensures { ((result ≡ status_of answer.now) × Took (O.taken out.old) (O.taken out.new) (text_of answer.now))
-        ⊎ ((result ≡ Status.WriteFault) × Rose (O.faults out.old) (O.faults out.new) (O.stands out.new)
+        ⊎ ((result ≡ Status.WriteFault) × Rose (O.faults out.old) (O.faults out.new) (O.saturated out.new)
         × TookPart (O.taken out.old) (O.taken out.new) (text_of answer.now)) }
 {
     match write_all(out, answer.text()) {
@@ -69,7 +69,7 @@ fn answer_input<O: Sink>(alloc: Global, command: Command, input: &[u8], out: &mu
     requires in_range { IsInRange command }
     ensures read { NeedsNoSource (kind_of result) }
     ensures answer { EndsBy (kind_of result) command (Some input.now) ⊥
-        (Rose (O.faults out.old) (O.faults out.new) (O.stands out.new))
+        (Rose (O.faults out.old) (O.faults out.new) (O.saturated out.new))
         (O.taken out.old) (O.taken out.new) result }
 {
     match respond(alloc, command, input) {
@@ -93,8 +93,8 @@ fn serve_input<S: Source, O: Sink>(
     ensures read { MayRead (readings.AtMost limit) (kind_of result) (S.left source.old) (S.left source.new)
         (S.faults source.old) (S.faults source.new) }
     ensures answer { EndsBy (kind_of result) command (S.left source.old)
-        (Rose (S.faults source.old) (S.faults source.new) (S.stands source.new))
-        (Rose (O.faults out.old) (O.faults out.new) (O.stands out.new))
+        (Rose (S.faults source.old) (S.faults source.new) (S.saturated source.new))
+        (Rose (O.faults out.old) (O.faults out.new) (O.saturated out.new))
         (O.taken out.old) (O.taken out.new) result }
 {
     match read_all(alloc, source, limit) {
@@ -111,8 +111,8 @@ fn serve<S: Source, O: Sink>(alloc: Global, command: Command, source: &mut S, ou
     ensures read { MayRead (reads command) (kind_of result) (S.left source.old) (S.left source.new)
         (S.faults source.old) (S.faults source.new) }
     ensures answer { EndsBy (kind_of result) command (given (reads command) (S.left source.old))
-        (Rose (S.faults source.old) (S.faults source.new) (S.stands source.new))
-        (Rose (O.faults out.old) (O.faults out.new) (O.stands out.new))
+        (Rose (S.faults source.old) (S.faults source.new) (S.saturated source.new))
+        (Rose (O.faults out.old) (O.faults out.new) (O.saturated out.new))
         (O.taken out.old) (O.taken out.new) result }
 {
     match command.reads() {
@@ -131,8 +131,8 @@ fn serve_words<S: Source, O: Sink>(
     ensures turns { S.calls source.new ≤ S.calls source.old + most_turns (bytes_of words.now.items) }
     ensures answer { MayAnswer (bytes_of words.now.items) (S.left source.old) (S.left source.new)
         (S.faults source.old) (S.faults source.new)
-        (Rose (S.faults source.old) (S.faults source.new) (S.stands source.new))
-        (Rose (O.faults out.old) (O.faults out.new) (O.stands out.new))
+        (Rose (S.faults source.old) (S.faults source.new) (S.saturated source.new))
+        (Rose (O.faults out.old) (O.faults out.new) (O.saturated out.new))
         (O.taken out.old) (O.taken out.new) result }
 {
     match command_of(words) {
@@ -169,8 +169,8 @@ pub fn run<S: Source, O: Sink, E: Sink>(
         × IsForm c (bytes_of words.now.items) × ReadWithinLimit c (S.left source.old) (S.left source.new) }
 
     // A fault is answered only where that object's count rose.
-    ensures read_fault { result ≡ Status.ReadFault → Rose (S.faults source.old) (S.faults source.new) (S.stands source.new) }
-    ensures write_fault { result ≡ Status.WriteFault → Rose (O.faults out.old) (O.faults out.new) (O.stands out.new) }
+    ensures read_fault { result ≡ Status.ReadFault → Rose (S.faults source.old) (S.faults source.new) (S.saturated source.new) }
+    ensures write_fault { result ≡ Status.WriteFault → Rose (O.faults out.old) (O.faults out.new) (O.saturated out.new) }
 
     // Where the input is told, every other status but Memory is an answer to it, and `out` took its text.
     ensures answered { IsDecided result → IfSome (input_for (bytes_of words.now.items) (S.left source.old)) (λ input.
@@ -183,8 +183,8 @@ pub fn run<S: Source, O: Sink, E: Sink>(
     // To an input that the command accepts an answer of its own comes where no stream fails, or there was no memory.
     ensures completed { (c : AnyCommand) → IsForm c (bytes_of words.now.items)
         → IfSome (given (reads c) (S.left source.old)) (λ input. IsAccepted c input
-        → ¬ Rose (S.faults source.old) (S.faults source.new) (S.stands source.new)
-        → ¬ Rose (O.faults out.old) (O.faults out.new) (O.stands out.new)
+        → ¬ Rose (S.faults source.old) (S.faults source.new) (S.saturated source.new)
+        → ¬ Rose (O.faults out.old) (O.faults out.new) (O.saturated out.new)
         → IsOwnAnswer c input (O.taken out.old) (O.taken out.new) result ⊎ (result ≡ Status.Memory)) }
     // Where `check` is done, `out` took the value of a certificate whose surface is least over its chain.
     ensures least { result ≡ Status.Done → IsForm commands.Check (bytes_of words.now.items) → IfSome (S.left source.old)
@@ -240,15 +240,15 @@ pub fn run<S: Source, O: Sink, E: Sink>(
 
     // `notes` took the line of the status, or a prefix of it where its count rose.
     ensures noted { TookUpTo (E.taken notes.old) (E.taken notes.new) (note_of result) }
-    ensures whole_note { Rose (E.faults notes.old) (E.faults notes.new) (E.stands notes.new)
+    ensures whole_note { Rose (E.faults notes.old) (E.faults notes.new) (E.saturated notes.new)
         ⊎ Took (E.taken notes.old) (E.taken notes.new) (note_of result) }
 
     // All this in one: how the words, the three streams and the status go together.
     ensures call { IsCall (bytes_of words.now.items) (S.left source.old) (S.left source.new)
         (S.faults source.old) (S.faults source.new)
-        (Rose (S.faults source.old) (S.faults source.new) (S.stands source.new))
-        (Rose (O.faults out.old) (O.faults out.new) (O.stands out.new))
-        (Rose (E.faults notes.old) (E.faults notes.new) (E.stands notes.new))
+        (Rose (S.faults source.old) (S.faults source.new) (S.saturated source.new))
+        (Rose (O.faults out.old) (O.faults out.new) (O.saturated out.new))
+        (Rose (E.faults notes.old) (E.faults notes.new) (E.saturated notes.new))
         (O.taken out.old) (O.taken out.new) (E.taken notes.old) (E.taken notes.new) result }
 {
     let status = serve_words(alloc, words, source, out);
@@ -273,9 +273,9 @@ pub fn run_to_code<S: Source, O: Sink, E: Sink>(
     ensures ran { IfSome words (λ all. (status : AnyStatus) × (result ≡ code_of status)
         × IsCall (bytes_of all.items) (S.left source.old) (S.left source.new)
         (S.faults source.old) (S.faults source.new)
-        (Rose (S.faults source.old) (S.faults source.new) (S.stands source.new))
-        (Rose (O.faults out.old) (O.faults out.new) (O.stands out.new))
-        (Rose (E.faults notes.old) (E.faults notes.new) (E.stands notes.new))
+        (Rose (S.faults source.old) (S.faults source.new) (S.saturated source.new))
+        (Rose (O.faults out.old) (O.faults out.new) (O.saturated out.new))
+        (Rose (E.faults notes.old) (E.faults notes.new) (E.saturated notes.new))
         (O.taken out.old) (O.taken out.new) (E.taken notes.old) (E.taken notes.new) status) }
 {
     match words {

@@ -3,7 +3,7 @@ use Rattle.std.specs.Prelude.{◌≡◌, ℕ, ◌+◌, ◌-◌, ◌^◌, ◌<◌
 
 -- the count is greater than before, or stands at its last value
 abbrev pub Rose : ℕ → ℕ → Bool → Type 0
-Rose before now stands = (before < now) ⊎ IsTrue stands
+Rose before now saturated = (before < now) ⊎ IsTrue saturated
 
 -- the last value of a counter of 64 bits
 abbrev pub last_count : ℕ
@@ -14,8 +14,8 @@ abbrev pub next_count : ℕ → ℕ
 next_count n = min (n + 1) last_count
 
 -- whether a counter stands at its last value
-abbrev pub stands_at_last : ℕ → Bool
-stands_at_last n = n == last_count
+abbrev pub is_saturated : ℕ → Bool
+is_saturated n = n == last_count
 
 -- a call that failed is one fault more, and no other call is
 abbrev pub CountsFault : {T E : Type 0} → Result T E → ℕ → ℕ → Type 0

@@ -12,9 +12,9 @@ use std::marker::Model;
 /// Calls on calm objects are never faults: their count is 0, and no last value.
 pub fn calm_counts_are_zero()
     ensures source_count { (s : Supply) → ⟦<CalmSource as Source>⟧.faults s ≡ 0 }
-    ensures source_not_last { (s : Supply) → ⟦<CalmSource as Source>⟧.stands s ≡ false }
+    ensures source_not_last { (s : Supply) → ⟦<CalmSource as Source>⟧.saturated s ≡ false }
     ensures sink_count { (s : Shelf) → ⟦<CalmSink as Sink>⟧.faults s ≡ 0 }
-    ensures sink_not_last { (s : Shelf) → ⟦<CalmSink as Sink>⟧.stands s ≡ false }
+    ensures sink_not_last { (s : Shelf) → ⟦<CalmSink as Sink>⟧.saturated s ≡ false }
 {}
 
 /// Bytes in memory, at most `piece` of which come in one call. It never fails.
@@ -55,7 +55,7 @@ impl Source for CalmSource {
 
     ghost faults = { λ _. 0 };
 
-    ghost stands = { λ _. false };
+    ghost saturated = { λ _. false };
 
     ghost given = { λ s. s.given };
 
@@ -122,7 +122,7 @@ impl Sink for CalmSink {
 
     ghost faults = { λ _. 0 };
 
-    ghost stands = { λ _. false };
+    ghost saturated = { λ _. false };
 
     fn write(&mut self, bytes: &[u8]) -> Result<usize, Failed>
         ensures count { result ≡ Ok (length bytes.now) }

@@ -1,6 +1,6 @@
 //! A source and a sink in memory whose calls fail as planned.
 ghost use Rattle.std.specs.Prelude.{◌≡◌, ◌+◌, ◌<◌, ◌≤◌, false, IsTrue, ◌↔◌, ◌⊎◌, Some, [], ◌++◌, length, take, min, IfOk, OnOk, OnErr, IsErr, Contains};
-ghost use Rattle.sc_outside.specs.Faults.{Rose, CountsFault, next_count, stands_at_last};
+ghost use Rattle.sc_outside.specs.Faults.{Rose, CountsFault, next_count, is_saturated};
 ghost use Rattle.sc_outside.specs.Told.{Took};
 ghost use Rattle.sc_outside.specs.Stores.{told_unless};
 
@@ -56,7 +56,7 @@ impl Source for MemorySource {
 
     ghost faults = { λ s. s.faults };
 
-    ghost stands = { λ s. stands_at_last s.faults };
+    ghost saturated = { λ s. is_saturated s.faults };
 
     ghost calls = { λ s. s.calls };
 
@@ -73,10 +73,10 @@ impl Source for MemorySource {
         ensures gave_nothing { OnErr result (self.new.given ≡ self.old.given) }
         ensures counts { CountsFault result self.old.faults self.new.faults }
         ensures fault { OnErr result (Rose self.old.faults self.new.faults
-            (stands_at_last self.new.faults)) }
+            (is_saturated self.new.faults)) }
         ensures never_falls { self.old.faults ≤ self.new.faults }
-        ensures stands_on { IsTrue (stands_at_last self.old.faults) →
-            IsTrue (stands_at_last self.new.faults) }
+        ensures stays_saturated { IsTrue (is_saturated self.old.faults) →
+            IsTrue (is_saturated self.new.faults) }
         ensures no_fault { OnOk result (self.new.faults ≡ self.old.faults) }
         ensures one_fault { self.new.faults ≤ self.old.faults + 1 }
         ensures next_call { self.new.calls ≡ next_count self.old.calls }
@@ -156,7 +156,7 @@ impl Sink for MemorySink {
 
     ghost faults = { λ s. s.faults };
 
-    ghost stands = { λ s. stands_at_last s.faults };
+    ghost saturated = { λ s. is_saturated s.faults };
 
     fn write(&mut self, bytes: &[u8]) -> Result<usize, Failed>
         ensures fails { IsErr result ↔ (Contains self.old.fails self.old.calls ⊎
@@ -173,10 +173,10 @@ impl Sink for MemorySink {
             (self.new.passed ≡ self.old.passed)) }
         ensures counts { CountsFault result self.old.faults self.new.faults }
         ensures fault { OnErr result (Rose self.old.faults self.new.faults
-            (stands_at_last self.new.faults)) }
+            (is_saturated self.new.faults)) }
         ensures never_falls { self.old.faults ≤ self.new.faults }
-        ensures stands_on { IsTrue (stands_at_last self.old.faults) →
-            IsTrue (stands_at_last self.new.faults) }
+        ensures stays_saturated { IsTrue (is_saturated self.old.faults) →
+            IsTrue (is_saturated self.new.faults) }
         ensures no_fault { OnOk result (self.new.faults ≡ self.old.faults) }
         ensures one_fault { self.new.faults ≤ self.old.faults + 1 }
         ensures next_call { self.new.calls ≡ next_count self.old.calls }

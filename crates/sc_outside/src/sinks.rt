@@ -14,7 +14,7 @@ pub trait Sink {
     ghost faults: { Self → ℕ };
 
     // Whether the counter of faults stands at its last value.
-    ghost stands: { Self → Bool };
+    ghost saturated: { Self → Bool };
 
     /// Takes the front of `bytes` and answers how many: at least one, unless `bytes` is empty. A
     /// call that fails takes nothing.
@@ -24,9 +24,9 @@ pub trait Sink {
         ensures appended { IfOk result (λ k. Took (taken self.old) (taken self.new)
             (take k bytes.now)) }
         ensures nothing { OnErr result (Took (taken self.old) (taken self.new) []) }
-        ensures fault { OnErr result (Rose (faults self.old) (faults self.new) (stands self.new)) }
+        ensures fault { OnErr result (Rose (faults self.old) (faults self.new) (saturated self.new)) }
         ensures never_falls { faults self.old ≤ faults self.new }
-        ensures stands_on { IsTrue (stands self.old) → IsTrue (stands self.new) }
+        ensures stays_saturated { IsTrue (saturated self.old) → IsTrue (saturated self.new) }
         ensures no_fault { OnOk result (faults self.new ≡ faults self.old) }
         ensures one_fault { faults self.new ≤ faults self.old + 1 };
 }
@@ -37,9 +37,9 @@ pub fn write_all<K: Sink>(sink: &mut K, bytes: &[u8]) -> Result<(), Failed>
     ensures all { OnOk result (Took (K.taken sink.old) (K.taken sink.new) bytes.now) }
     ensures part { OnErr result (TookPart (K.taken sink.old) (K.taken sink.new) bytes.now) }
     ensures fault { OnErr result (Rose (K.faults sink.old) (K.faults sink.new)
-        (K.stands sink.new)) }
+        (K.saturated sink.new)) }
     ensures never_falls { K.faults sink.old ≤ K.faults sink.new }
-    ensures stands_on { IsTrue (K.stands sink.old) → IsTrue (K.stands sink.new) }
+    ensures stays_saturated { IsTrue (K.saturated sink.old) → IsTrue (K.saturated sink.new) }
     ensures no_fault { OnOk result (K.faults sink.new ≡ K.faults sink.old) }
     ensures one_fault { K.faults sink.new ≤ K.faults sink.old + 1 }
 {

@@ -19,7 +19,7 @@ pub trait Source {
     ghost faults: { Self → ℕ };
 
     // Whether the counter of faults stands at its last value.
-    ghost stands: { Self → Bool };
+    ghost saturated: { Self → Bool };
 
     // How many calls there were so far, where the source counts them.
     ghost calls: { Self → ℕ } = { λ _. 0 };
@@ -34,9 +34,9 @@ pub trait Source {
         ensures next_bytes { IfOk result (λ k. Consumes (left self.old) (left self.new)
             (take k room.new)) }
         ensures ended { result ≡ Ok 0 → 0 < length room.old → IsAtEnd (left self.old) }
-        ensures fault { OnErr result (Rose (faults self.old) (faults self.new) (stands self.new)) }
+        ensures fault { OnErr result (Rose (faults self.old) (faults self.new) (saturated self.new)) }
         ensures never_falls { faults self.old ≤ faults self.new }
-        ensures stands_on { IsTrue (stands self.old) → IsTrue (stands self.new) }
+        ensures stays_saturated { IsTrue (saturated self.old) → IsTrue (saturated self.new) }
         ensures no_fault { OnOk result (faults self.new ≡ faults self.old) }
         ensures one_fault { faults self.new ≤ faults self.old + 1 }
         ensures one_call { calls self.new ≤ calls self.old + 1 }
@@ -94,9 +94,9 @@ pub fn read_all<S: Source>(alloc: Global, source: &mut S, limit: usize) -> Resul
         (n : ℕ) × (n ≤ limit) × Delivered (S.left source.old) (S.left source.new) n }
 
     ensures fault { result ≡ Err ReadAll.ReadFault →
-        Rose (S.faults source.old) (S.faults source.new) (S.stands source.new) }
+        Rose (S.faults source.old) (S.faults source.new) (S.saturated source.new) }
     ensures never_falls { S.faults source.old ≤ S.faults source.new }
-    ensures stands_on { IsTrue (S.stands source.old) → IsTrue (S.stands source.new) }
+    ensures stays_saturated { IsTrue (S.saturated source.old) → IsTrue (S.saturated source.new) }
     ensures no_fault { IsOk result → S.faults source.new ≡ S.faults source.old }
     ensures one_fault { S.faults source.new ≤ S.faults source.old + 1 }
 

@@ -1,7 +1,7 @@
 //! Sources and sinks over std's readers and writers.
 ghost use Rattle.std.specs.Prelude.{◌≡◌, ◌+◌, ◌<◌, ◌≤◌, true, false, IsTrue, IsSome, None, [], length, OnOk, OnErr, IfOk, Ok, take, if◌then◌else◌};
 ghost use Rattle.std.specs.Io.KnownBytes.{Appends, Consumes, IsAtEnd, Keeps};
-ghost use Rattle.sc_outside.specs.Faults.{Rose, CountsFault, stands_at_last};
+ghost use Rattle.sc_outside.specs.Faults.{Rose, CountsFault, is_saturated};
 ghost use Rattle.sc_outside.specs.Told.{Took};
 
 use crate::faults::Failed;
@@ -32,7 +32,7 @@ impl<R: Read> Source for StdSource<R> {
 
     ghost faults = { λ s. s.faults };
 
-    ghost stands = { λ s. stands_at_last s.faults };
+    ghost saturated = { λ s. is_saturated s.faults };
 
     fn read(&mut self, room: &mut [u8]) -> Result<usize, Failed>
         ensures fits { IfOk result (λ k. k ≤ length room.old) }
@@ -48,12 +48,12 @@ impl<R: Read> Source for StdSource<R> {
         ensures counts { let faults = ⟦<StdSource<R> as Source>⟧.faults in
             CountsFault result (faults self.old) (faults self.new) }
         ensures fault { let faults = ⟦<StdSource<R> as Source>⟧.faults in
-            let stands = ⟦<StdSource<R> as Source>⟧.stands in
-            OnErr result (Rose (faults self.old) (faults self.new) (stands self.new)) }
+            let saturated = ⟦<StdSource<R> as Source>⟧.saturated in
+            OnErr result (Rose (faults self.old) (faults self.new) (saturated self.new)) }
         ensures never_falls { let faults = ⟦<StdSource<R> as Source>⟧.faults in
             faults self.old ≤ faults self.new }
-        ensures stands_on { let stands = ⟦<StdSource<R> as Source>⟧.stands in
-            IsTrue (stands self.old) → IsTrue (stands self.new) }
+        ensures stays_saturated { let saturated = ⟦<StdSource<R> as Source>⟧.saturated in
+            IsTrue (saturated self.old) → IsTrue (saturated self.new) }
         ensures no_fault { let faults = ⟦<StdSource<R> as Source>⟧.faults in
             OnOk result (faults self.new ≡ faults self.old) }
         ensures one_fault { let faults = ⟦<StdSource<R> as Source>⟧.faults in
@@ -115,7 +115,7 @@ impl<W: Write> Sink for StdSink<W> {
 
     ghost faults = { λ s. s.faults };
 
-    ghost stands = { λ s. stands_at_last s.faults };
+    ghost saturated = { λ s. is_saturated s.faults };
 
     fn write(&mut self, bytes: &[u8]) -> Result<usize, Failed>
         ensures fits { IfOk result (λ k. k ≤ length bytes.now) }
@@ -132,12 +132,12 @@ impl<W: Write> Sink for StdSink<W> {
         ensures counts { let faults = ⟦<StdSink<W> as Sink>⟧.faults in
             CountsFault result (faults self.old) (faults self.new) }
         ensures fault { let faults = ⟦<StdSink<W> as Sink>⟧.faults in
-            let stands = ⟦<StdSink<W> as Sink>⟧.stands in
-            OnErr result (Rose (faults self.old) (faults self.new) (stands self.new)) }
+            let saturated = ⟦<StdSink<W> as Sink>⟧.saturated in
+            OnErr result (Rose (faults self.old) (faults self.new) (saturated self.new)) }
         ensures never_falls { let faults = ⟦<StdSink<W> as Sink>⟧.faults in
             faults self.old ≤ faults self.new }
-        ensures stands_on { let stands = ⟦<StdSink<W> as Sink>⟧.stands in
-            IsTrue (stands self.old) → IsTrue (stands self.new) }
+        ensures stays_saturated { let saturated = ⟦<StdSink<W> as Sink>⟧.saturated in
+            IsTrue (saturated self.old) → IsTrue (saturated self.new) }
         ensures no_fault { let faults = ⟦<StdSink<W> as Sink>⟧.faults in
             OnOk result (faults self.new ≡ faults self.old) }
         ensures one_fault { let faults = ⟦<StdSink<W> as Sink>⟧.faults in

@@ -7,5 +7,5 @@ loop-written-preserved g c = record {
   within = within_next _ _ _ c.loop-written.invariant.within c.in_ok-written.ensures.fits;
   taken = Took-next _ _ _ _ _ _ c.loop-written.invariant.taken c.in_ok-written.ensures.appended;
   no_fault = c.in_ok-written.ensures.no_fault ∙ c.loop-written.invariant.no_fault;
-  stands = λ h. c.in_ok-written.ensures.stands_on (c.loop-written.invariant.stands h);
+  saturated = λ h. c.in_ok-written.ensures.stays_saturated (c.loop-written.invariant.saturated h);
 }

@@ -8,7 +8,7 @@ invariant-loop-written g l = record {
   within : l.written ≤ length l.bytes;
   taken : Took (g.K.Sink.taken l.initial.sink) (g.K.Sink.taken l.sink) (take l.written l.bytes);
   no_fault : g.K.Sink.faults l.sink ≡ g.K.Sink.faults l.initial.sink;
-  stands : IsTrue (g.K.Sink.stands l.initial.sink) → IsTrue (g.K.Sink.stands l.sink);
+  saturated : IsTrue (g.K.Sink.saturated l.initial.sink) → IsTrue (g.K.Sink.saturated l.sink);
 }
 
 abbrev pub decreases-loop-written : goal.decreases-loop-written
