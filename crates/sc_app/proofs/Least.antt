@@ -1,5 +1,5 @@
--- What the texts of commands show: those of `check` and of `scl` that a surface is least, or that of `scl` an unbalanced
--- generator, or why `scl` found no least surface.
+-- What the texts of commands show: those of `check` and of `scl` that a surface is least, or that of `scl` an
+-- unbalanced generator, or why `scl` found no least surface.
 use Rattle.std.proofs.Common.{ℕ, ◌⊎◌, inl, inr, List, Option, None, Some, IfSome, pos, ◌<ℤ◌, sym, subst, ◌∙◌, arith}
 use Rattle.std.proofs.lemmas.Int.{ints}
 use Rattle.sc_theory.specs.Chains.{Chain}

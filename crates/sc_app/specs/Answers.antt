@@ -111,8 +111,8 @@ abbrev pub Breaks : Command → Option (List ℕ) → Option (List ℕ) → Opti
 Breaks c input old new =
     IfSome input (λ bytes. (status : Status) × (text : List ℕ) × AnswersTo c bytes status text × TookPart old new text)
 
--- how a command ends by a status of a kind: `input` is what it is given, where that is told, `ReadRose` and `WriteRose` that
--- a count of faults rose, and `old` and `new` what `out` had taken before and has taken now
+-- how a command ends by a status of a kind: `input` is what it is given, where that is told, `ReadRose` and
+-- `WriteRose` that a count of faults rose, and `old` and `new` what `out` had taken before and has taken now
 abbrev pub EndsBy : StatusKind → Command → Option (List ℕ) → Type 0 → Type 0 → Option (List ℕ) → Option (List ℕ) → Status → Type 0
 EndsBy WithText c input ReadRose WriteRose old new status = Delivers c input old new status
 EndsBy WithoutText c input ReadRose WriteRose old new status = Delivers c input old new status × Took old new []
@@ -124,8 +124,9 @@ EndsBy NoMemory c input ReadRose WriteRose old new status = Took old new []
 
 -- ---- how a call ends
 
--- what a call saw of its streams: `left` and `left'` what the source has left before and after, `faults` and `faults'` its
--- count, `ReadRose` and `WriteRose` that the source's count and that of `out` rose, `old` and `new` what `out` took
+-- what a call saw of its streams: `left` and `left'` what the source has left before and after, `faults` and
+-- `faults'` its count, `ReadRose` and `WriteRose` that the source's count and that of `out` rose, `old` and `new`
+-- what `out` took
 -- the words ask for nothing: nothing is read or written
 pub record IsUnasked (words : List (List ℕ)) (left left' : Option (List ℕ)) (faults faults' : ℕ) (old new : Option (List ℕ)) (status : Status) : Type 0 where
   pub none : HasNoForm words
@@ -151,7 +152,8 @@ MayAnswer words left left' faults faults' ReadRose WriteRose old new status =
 abbrev pub TookUpTo : Option (List ℕ) → Option (List ℕ) → List ℕ → Type 0
 TookUpTo old new text = TookPart old new text ⊎ Took old new text
 
--- a call ends so, with the line of its status on `notes`: `noted` and `noted'` are what that took, `NoteRose` that its count rose
+-- a call ends so, with the line of its status on `notes`: `noted` and `noted'` are what that took, `NoteRose` that
+-- its count rose
 pub record IsCall (words : List (List ℕ)) (left left' : Option (List ℕ)) (faults faults' : ℕ) (ReadRose WriteRose NoteRose : Type 0) (old new noted noted' : Option (List ℕ))
     (status : Status) : Type 0 where
   pub answers : MayAnswer words left left' faults faults' ReadRose WriteRose old new status

@@ -79,8 +79,8 @@ IsToldOfDirection v d (solve_faults.Sides journal part so_far next) status text 
     (status ≡ Sides) × (text ≡ sides_text v d journal.items part.polygon part.value so_far next)
 IsToldOfDirection v d solve_faults.Memory status text = ⊥
 
--- in the search of a quadrant a direction isn't solved within so many pivots, and this is the status and the text that shows
--- the search and the fault
+-- in the search of a quadrant a direction isn't solved within so many pivots, and this is the status and the text
+-- that shows the search and the fault
 abbrev pub ShowsUnsolved : Quadrant → Chain → Chain → ℕ → List Reached → Direction → SolveFault → Status → List ℕ → Type 0
 ShowsUnsolved q first second pivots search d fault status text =
     IsUnsolved q first second pivots (map reached_of search) d fault × IsToldOfDirection (shown q first second search) d fault status text

@@ -20,8 +20,8 @@ optimal_label = codes "optimal "
 abbrev pub optimal : Quotient → List ℕ
 optimal value = line (optimal_label ++ quotient_text value.0 value.1)
 
--- what `check` answers to an input: by the first malformed line, the first condition of the certificate that fails, or its
--- value where all conditions hold
+-- what `check` answers to an input: by the first malformed line, the first condition of the certificate that fails,
+-- or its value where all conditions hold
 abbrev pub CheckResponds : List ℕ → Status → List ℕ → Type 0
 CheckResponds input (Malformed at kind) text = IsFirstFault certificate_plan input at kind × (text ≡ [])
 CheckResponds input (Rejected condition) text =
@@ -39,8 +39,8 @@ IsCheckStatus Done = Unit {0}
 IsCheckStatus (Rejected condition) = Unit {0}
 IsCheckStatus _ = ⊥
 
--- what the line of a value tells: the input is the text of a certificate with a labelled fatgraph that is least, and the
--- text is the line of the certificate's value, which is that of the fatgraph
+-- what the line of a value tells: the input is the text of a certificate with a labelled fatgraph that is least, and
+-- the text is the line of the certificate's value, which is that of the fatgraph
 pub record ShowsLeast (input : List ℕ) (text : List ℕ) : Type 0 where
   pub certificate : Certificate
   pub read : IsCertificateText input certificate

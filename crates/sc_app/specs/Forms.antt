@@ -73,7 +73,8 @@ IsForm c words = form words ≡ Some c
 abbrev pub HasNoForm : List (List ℕ) → Type 0
 HasNoForm words = form words ≡ None
 
--- the word `scl` alone, which allows the default number of pivots, or with a number from 1 to the most in its one spelling
+-- the word `scl` alone, which allows the default number of pivots, or with a number from 1 to the most in its one
+-- spelling
 abbrev pub AreWordsOfScl : ℕ → List (List ℕ) → Type 0
 AreWordsOfScl n words =
     ((words ≡ codes "scl" ∷ []) × (n ≡ DEFAULT_PIVOTS))

@@ -14,8 +14,8 @@ use Rattle.sc_app.specs.declared.limits.TheConstants.{DEFAULT_PIVOTS}
 use Rattle.sc_app.specs.declared.status.Status.{Status}
 use Rattle.sc_app.specs.declared.status.Status.TheVariants.{Done, Budget, Wide, Sides}
 
--- the summary of a solution: what was asked for, the chain, its value and weighted length, and the columns and pivots that the
--- solver made
+-- the summary of a solution: what was asked for, the chain, its value and weighted length, and the columns and pivots
+-- that the solver made
 abbrev pub summary : ℕ → ℕ → Chain → Solution → List ℕ
 summary seed letters c s =
     text_of (numbers_line (codes "scallop gen") (pos seed ∷ pos letters ∷ [])
@@ -27,8 +27,8 @@ summary seed letters c s =
     ∷ ending
     ∷ []))
 
--- the text is the summary of a solution for the chain that is drawn by the seed: no labelled fatgraph over any number of copies
--- of the chain has a smaller fraction than the value, and there are at most as many columns as pivots
+-- the text is the summary of a solution for the chain that is drawn by the seed: no labelled fatgraph over any number
+-- of copies of the chain has a smaller fraction than the value, and there are at most as many columns as pivots
 pub record IsSummary (seed letters : ℕ) (text : List ℕ) : Type 0 where
   pub solution : Solution
   pub solves : IsSolution (drawn_chain seed letters) DEFAULT_PIVOTS solution

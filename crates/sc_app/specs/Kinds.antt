@@ -3,8 +3,8 @@ use Rattle.sc_app.specs.declared.status.Status.{Status}
 use Rattle.sc_app.specs.declared.status.Status.TheVariants.{Done, Usage, Malformed, Large, Wide, Budget, Sides, ReadFault, WriteFault, Memory, Rejected}
 use Rattle.sc_app.specs.declared.status.What.TheVariants.{Bytes, Words, Positions}
 
--- the command's answer with a text, or without one; more bytes than it reads; no command; a source that failed; a sink that
--- failed; no memory
+-- the command's answer with a text, or without one; more bytes than it reads; no command; a source that failed; a
+-- sink that failed; no memory
 pub data StatusKind : Type 0 where
   WithText : StatusKind
   WithoutText : StatusKind

@@ -64,8 +64,8 @@ Refuses input (Rejected (Flaw kind place)) text =
     (c : Chain) × (n : ℕ) × (g : Sides) × Says input c n g × IsFirstFlaw c n g kind place × (text ≡ rejection (Flaw kind place))
 Refuses input _ text = ⊥
 
--- what a command answers that tells of the labelled fatgraph which its input says: `Tells` is what it may write of a chain,
--- a number of copies and sides
+-- what a command answers that tells of the labelled fatgraph which its input says: `Tells` is what it may write of a
+-- chain, a number of copies and sides
 abbrev pub RespondsBySides : (Chain → ℕ → Sides → List ℕ → Type 0) → List ℕ → Status → List ℕ → Type 0
 RespondsBySides Tells input Done text =
     (c : Chain) × (n : ℕ) × (g : Sides) × Says input c n g × IsFatgraph c n g × Tells c n g text

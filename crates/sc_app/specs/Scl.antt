@@ -37,8 +37,8 @@ pub record IsInfinite (c : Chain) (text : List ℕ) : Type 0 where
   pub first : IsFirstUnbalanced c generator total
   pub text_is : text ≡ infinite generator total
 
--- the text is that of a solution, by at most so many pivots, as a certificate: all its conditions hold, and it is in the
--- ranges of one that is read
+-- the text is that of a solution, by at most so many pivots, as a certificate: all its conditions hold, and it is in
+-- the ranges of one that is read
 pub record IsSolved (c : Chain) (pivots : ℕ) (text : List ℕ) : Type 0 where
   pub balanced : IsBalanced c
   pub solution : Solution
@@ -64,8 +64,8 @@ pub record IsTooWide (c : Chain) (pivots : ℕ) (text : List ℕ) : Type 0 where
   pub evidence : IsWideAfter c pivots journal operation
   pub text_is : text ≡ wide_text c journal operation
 
--- the text shows at most so many lawful pivots to an optimal basis, and the part of it whose denominator leads to too many
--- sides
+-- the text shows at most so many lawful pivots to an optimal basis, and the part of it whose denominator leads to too
+-- many sides
 pub record HasTooManySides (c : Chain) (pivots : ℕ) (text : List ℕ) : Type 0 where
   pub balanced : IsBalanced c
   pub journal : List Pivot
@@ -122,8 +122,8 @@ IsSclStatus input _ = ⊥
 
 -- ---- what the texts tell
 
--- what the line of a generator and its total tells: the input is a chain text, the total is that of the lines as they are
--- written, it isn't 0, and the totals of lesser generators are
+-- what the line of a generator and its total tells: the input is a chain text, the total is that of the lines as they
+-- are written, it isn't 0, and the totals of lesser generators are
 pub record ShowsInfinite (input : List ℕ) (text : List ℕ) : Type 0 where
   pub lines : List RawLine
   pub read : IsChainText input lines
@@ -136,10 +136,10 @@ pub record ShowsInfinite (input : List ℕ) (text : List ℕ) : Type 0 where
   pub least : (h : ℕ) → h < generator → lines_total h lines ≡ pos 0
   pub line : text ≡ infinite generator total
 
--- what a certificate tells: the input is a chain text, each total of the lines as they are written is 0, the text is that of
--- the certificate, whose chain is the cyclically reduced one of the lines, its sides are a labelled fatgraph over its copies
--- of that chain, its value is the fraction -chi/2n of the fatgraph, and no labelled fatgraph over any number of copies has a
--- smaller one
+-- what a certificate tells: the input is a chain text, each total of the lines as they are written is 0, the text is
+-- that of the certificate, whose chain is the cyclically reduced one of the lines, its sides are a labelled fatgraph
+-- over its copies of that chain, its value is the fraction -chi/2n of the fatgraph, and no labelled fatgraph over any
+-- number of copies has a smaller one
 pub record ShowsExtremal (input : List ℕ) (text : List ℕ) : Type 0 where
   pub lines : List RawLine
   pub read : IsChainText input lines

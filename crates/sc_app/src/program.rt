@@ -156,11 +156,12 @@ pub fn run<S: Source, O: Sink, E: Sink>(
     // Nor is anything read for a command that reads nothing, whatever its status.
     ensures untouched { (c : AnyCommand) → IsForm c (bytes_of words.now.items) → reads c ≡ readings.Nothing
         → IsUntouched (S.left source.old) (S.left source.new) (S.faults source.old) (S.faults source.new) }
-    // The source is asked at most once a byte of the command's limit and once more, and not at all where nothing is read.
+    // The source is asked at most once a byte of the command's limit and once more, and not at all where nothing is
+    // read.
     ensures turns { S.calls source.new ≤ S.calls source.old + most_turns (bytes_of words.now.items) }
 
-    // After Large(Bytes) the source gave one byte more than the limit, with the answers to what it had every byte, and before
-    // Memory not more than the limit. What a source gives in a call that fails is its own affair.
+    // After Large(Bytes) the source gave one byte more than the limit, with the answers to what it had every byte,
+    // and before Memory not more than the limit. What a source gives in a call that fails is its own affair.
     ensures read_past_limit { result ≡ Status.Large What.Bytes → (c : AnyCommand)
         × IsForm c (bytes_of words.now.items) × ReadPastLimit c (S.left source.old) (S.left source.new) }
     ensures read_whole { IsReadToTheEnd result → (c : AnyCommand)
@@ -189,42 +190,44 @@ pub fn run<S: Source, O: Sink, E: Sink>(
     // Where `check` is done, `out` took the value of a certificate whose surface is least over its chain.
     ensures least { result ≡ Status.Done → IsForm commands.Check (bytes_of words.now.items) → IfSome (S.left source.old)
         (λ input. (text : List ℕ) × ShowsLeast input text × Took (O.taken out.old) (O.taken out.new) text) }
-    // Where `scl` is done, `out` took one of two texts. Either it is `infinite G T`: G is the first generator whose total over the
-    // lines as written isn't 0, and T that total. Or every total is 0, and it is the text of a certificate over the cyclically
-    // reduced chain of the lines: its sides are a labelled fatgraph whose boundary runs as many times round the chain as it has
-    // copies, its value is the fraction -chi/2n of that fatgraph, and no labelled fatgraph over any number of copies of the chain
-    // has a smaller one.
+    // Where `scl` is done, `out` took one of two texts. Either it is `infinite G T`: G is the first generator whose
+    // total over the lines as written isn't 0, and T that total. Or every total is 0, and it is the text of a
+    // certificate over the cyclically reduced chain of the lines: its sides are a labelled fatgraph whose boundary
+    // runs as many times round the chain as it has copies, its value is the fraction -chi/2n of that fatgraph, and no
+    // labelled fatgraph over any number of copies of the chain has a smaller one.
     ensures scl { result ≡ Status.Done → (pivots : ℕ) → IsForm (commands.Scl pivots) (bytes_of words.now.items) → IfSome (S.left source.old)
         (λ input. (text : List ℕ) × ShowsScl input text × Took (O.taken out.old) (O.taken out.new) text) }
-    // The certificate is that of a solution besides: its journal is lawful and has at most as many pivots as the words allow, its
-    // last basis is optimal, the list is the lift of its prices, the sides are glued of its polygons, the list is tight
-    // for them, the tables vouch for the list and hold the least totals, and all conditions of a certificate hold, in its ranges, so
-    // that the text is one that `check` reads.
+    // The certificate is that of a solution besides: its journal is lawful and has at most as many pivots as the
+    // words allow, its last basis is optimal, the list is the lift of its prices, the sides are glued of its
+    // polygons, the list is tight for them, the tables vouch for the list and hold the least totals, and all
+    // conditions of a certificate hold, in its ranges, so that the text is one that `check` reads.
     ensures solution { result ≡ Status.Done → (pivots : ℕ) → IsForm (commands.Scl pivots) (bytes_of words.now.items) → IfSome (S.left source.old)
         (λ input. (text : List ℕ) × OfItsChain input (λ c. IsInfinite c text ⊎ IsSolved c pivots text) × Took (O.taken out.old) (O.taken out.new) text) }
-    // Budget, Wide and Sides come for balanced chains alone, each with the evidence of the text that `out` took: so many lawful
-    // pivots and a polygon that improves; lawful pivots and an operation that is too wide after them; lawful pivots to an optimal
-    // basis and the part whose denominator leads to too many sides.
+    // Budget, Wide and Sides come for balanced chains alone, each with the evidence of the text that `out` took: so
+    // many lawful pivots and a polygon that improves; lawful pivots and an operation that is too wide after them;
+    // lawful pivots to an optimal basis and the part whose denominator leads to too many sides.
     ensures budget { result ≡ Status.Budget → (pivots : ℕ) → IsForm (commands.Scl pivots) (bytes_of words.now.items) → IfSome (S.left source.old)
         (λ input. (text : List ℕ) × OfItsChain input (λ c. IsOverBudget c pivots text) × Took (O.taken out.old) (O.taken out.new) text) }
     ensures wide { result ≡ Status.Wide → (pivots : ℕ) → IsForm (commands.Scl pivots) (bytes_of words.now.items) → IfSome (S.left source.old)
         (λ input. (text : List ℕ) × OfItsChain input (λ c. IsTooWide c pivots text) × Took (O.taken out.old) (O.taken out.new) text) }
     ensures sides { result ≡ Status.Sides → (pivots : ℕ) → IsForm (commands.Scl pivots) (bytes_of words.now.items) → IfSome (S.left source.old)
         (λ input. (text : List ℕ) × OfItsChain input (λ c. HasTooManySides c pivots text) × Took (O.taken out.old) (O.taken out.new) text) }
-    // `gen` reads nothing. Where it is done, `out` took the summary of a solution for the chain that the seed draws, by at most as many
-    // pivots as `scl` makes without a number: the value is least, and columns and pivots are those of the solution's journal. Budget,
-    // Wide and Sides come with the evidence that `scl` shows for that chain.
+    // `gen` reads nothing. Where it is done, `out` took the summary of a solution for the chain that the seed draws,
+    // by at most as many pivots as `scl` makes without a number: the value is least, and columns and pivots are those
+    // of the solution's journal. Budget, Wide and Sides come with the evidence that `scl` shows for that chain.
     ensures generated { (seed letters : ℕ) → IsForm (commands.Generate seed letters) (bytes_of words.now.items) → IsDecided result
         → (text : List ℕ) × GenerateResponds seed letters result text × Took (O.taken out.old) (O.taken out.new) text }
-    // Where `ball` is done, `out` took one of three texts. It is `infinite first G T` where the first chain isn't balanced, with its first
-    // generator whose total isn't 0 and that total; `infinite second G T` where the first is balanced and the second isn't; and else the
-    // text of the fan of the two cyclically reduced chains, in the ranges of one that is read: its corners are primitive directions from
-    // 0, -1 through 1, 0 to 0, 1 with their values, each edge's list covers its quadrant's chain, is tight at both ends, and tells the
-    // values on the whole cone between them.
+    // Where `ball` is done, `out` took one of three texts. It is `infinite first G T` where the first chain isn't
+    // balanced, with its first generator whose total isn't 0 and that total; `infinite second G T` where the first is
+    // balanced and the second isn't; and else the text of the fan of the two cyclically reduced chains, in the ranges
+    // of one that is read: its corners are primitive directions from 0, -1 through 1, 0 to 0, 1 with their values,
+    // each edge's list covers its quadrant's chain, is tight at both ends, and tells the values on the whole cone
+    // between them.
     ensures ball { result ≡ Status.Done → (pivots : ℕ) → IsForm (commands.Ball pivots) (bytes_of words.now.items) → IfSome (S.left source.old)
         (λ input. (text : List ℕ) × OfItsChains input (λ first second. DoneFor first second text) × Took (O.taken out.old) (O.taken out.new) text) }
-    // Budget, Wide and Sides come for two balanced chains alone, and the text that `out` took shows the search so far and what stopped
-    // it: a direction at which `scl`'s evidence comes for its chain, a crossing that is too wide, or a next direction of too great length.
+    // Budget, Wide and Sides come for two balanced chains alone, and the text that `out` took shows the search so far
+    // and what stopped it: a direction at which `scl`'s evidence comes for its chain, a crossing that is too wide, or
+    // a next direction of too great length.
     ensures ball_budget { result ≡ Status.Budget → (pivots : ℕ) → IsForm (commands.Ball pivots) (bytes_of words.now.items) → IfSome (S.left source.old)
         (λ input. (text : List ℕ) × OfItsChains input (λ first second. IsStopped first second pivots Status.Budget text) × Took (O.taken out.old) (O.taken out.new) text) }
     ensures ball_wide { result ≡ Status.Wide → (pivots : ℕ) → IsForm (commands.Ball pivots) (bytes_of words.now.items) → IfSome (S.left source.old)
@@ -257,8 +260,8 @@ pub fn run<S: Source, O: Sink, E: Sink>(
     status
 }
 
-/// What the program does with its words and its streams: it runs them and ends with the code of the status. Where the words
-/// couldn't be had for want of memory, it ends with the code of that and leaves the streams alone.
+/// What the program does with its words and its streams: it runs them and ends with the code of the status. Where the
+/// words couldn't be had for want of memory, it ends with the code of that and leaves the streams alone.
 pub fn run_to_code<S: Source, O: Sink, E: Sink>(
     alloc: Global,
     words: Option<Vec<String>>,

@@ -127,8 +127,8 @@ fn value_of(alloc: Global, chain: Chain, pivots: u32) -> Result<Answer, AllocErr
     }
 }
 
-/// Reads a chain text and answers its stable commutator length, with a certificate that is found by at most so many pivots,
-/// or why there is none.
+/// Reads a chain text and answers its stable commutator length, with a certificate that is found by at most so many
+/// pivots, or why there is none.
 pub fn answer_scl(alloc: Global, pivots: u32, input: &[u8]) -> Result<Answer, AllocError>
     requires few_bytes { length input.now ≤ MAX_CHAIN_BYTES }
     requires some_pivots { 1 ≤ pivots }

@@ -40,8 +40,8 @@ pub enum Status {
     WriteFault,
     /// There was no memory.
     Memory,
-    /// The surface isn't a labelled fatgraph, or the certificate doesn't show that it is least: the first condition that
-    /// fails.
+    /// The surface isn't a labelled fatgraph, or the certificate doesn't show that it is least: the first condition
+    /// that fails.
     Rejected(Condition),
 }
 

@@ -63,8 +63,8 @@ fn fans_are_printed(rt: HostRuntime) -> Result<(), Fail> {
     Ok(())
 }
 
-/// The values at the corners of the commutator and its pair of pants, and on each edge at the sum of its two corners and at
-/// that of one and twice the other: there a value is the sum of theirs.
+/// The values at the corners of the commutator and its pair of pants, and on each edge at the sum of its two corners
+/// and at that of one and twice the other: there a value is the sum of theirs.
 #[test]
 fn values_are_those_of_scl(rt: HostRuntime) -> Result<(), Fail> {
     let rows: [(i8, i8, &str); 19] = [

@@ -1,5 +1,5 @@
-//! Tests of the program from bytes to bytes. They call `run` and its kin as `main` does, so they stand in a crate of their
-//! own: a check with tests proves all of a crate once more, and that of `sc_app` is long.
+//! Tests of the program from bytes to bytes. They call `run` and its kin as `main` does, so they stand in a crate of
+//! their own: a check with tests proves all of a crate once more, and that of `sc_app` is long.
 #![tactic(auto)]
 
 #[cfg(test)]

@@ -27,7 +27,8 @@ pub record FailingSupply : Type 0 where
   pub calls : ℕ
   pub faults : ℕ
 
--- a shelf, at most how many bytes one call takes, the numbers of the calls that fail, the next call's number, and the count of faults
+-- a shelf, at most how many bytes one call takes, the numbers of the calls that fail, the next call's number, and the
+-- count of faults
 pub record FailingShelf : Type 0 where
   pub room : ℕ
   pub kept : List ℕ

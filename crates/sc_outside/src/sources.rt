@@ -76,8 +76,8 @@ impl From<Failed> for ReadAll {
 }
 
 /// All bytes up to the end of the input, where they are at most `limit`. Makes at most `limit + 1`
-/// calls, and asks no more once the input has ended, failed or passed the limit. Which bytes a source delivers in a call that fails is its own affair, so nothing is said
-/// of the bytes left after `ReadFault`.
+/// calls, and asks no more once the input has ended, failed or passed the limit. Which bytes a source delivers in a
+/// call that fails is its own affair, so nothing is said of the bytes left after `ReadFault`.
 pub fn read_all<S: Source>(alloc: Global, source: &mut S, limit: usize) -> Result<Vec<u8>, ReadAll>
     requires { limit < 2 ^ 31 }
     ensures whole { IfOk result (λ v. IfSome (S.left source.old) (λ input. v.items ≡ input)) }

@@ -1,4 +1,5 @@
-//! The program once more, run on a certificate that is rejected, so that a code other than 0 comes from a real end of it.
+//! The program once more, run on a certificate that is rejected, so that a code other than 0 comes from a real end of
+//! it.
 #![tactic(auto)]
 
 use sc_app::{run_to_code, words_of_program};
