@@ -1,5 +1,5 @@
--- For each balanced chain some polygons have columns that come to the right side: those that the turns round the vertices of its
--- seed surface split into.
+-- For each balanced chain some polygons have columns that come to the right side: those that the turns round the
+-- vertices of its seed surface split into.
 use Rattle.std.proofs.Common.{◌≡◌, ℕ, ◌<◌, ◌≤◌, Bool, true, false, ◌&&◌, eqb, if◌then◌else◌, List, [], ◌∷◌, map, length, ℤ, pos, ◌+ℤ◌, ◌-ℤ◌, neg_ℤ, inl, inr, arith, refl, sym, ap, ap₂, subst, ◌∙◌}
 use Rattle.std.specs.List.{AllByRecursion}
 use Rattle.std.proofs.lemmas.Int.{ints}

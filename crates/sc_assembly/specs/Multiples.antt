@@ -42,8 +42,8 @@ counted [] counts = []
 counted (p ∷ parts) [] = []
 counted (p ∷ parts) (k ∷ counts) = (p.polygon, k) ∷ counted parts counts
 
--- the parts are polygons, no value is negative, and the sum of value times column is the right side: whatever number makes
--- the values whole, that many of the columns come to as many right sides
+-- the parts are polygons, no value is negative, and the sum of value times column is the right side: whatever number
+-- makes the values whole, that many of the columns come to as many right sides
 pub record AreValues (c : Chain) (parts : List Part) : Type 0 where
   pub polygons : AllByRecursion (λ p. IsPolygon c p.polygon) parts
   pub not_negative : AllByRecursion (λ p. pos 0 ≤ℤ numerator p.value) parts
@@ -56,8 +56,8 @@ pub record IsLeastCommon (parts : List Part) (m : ℕ) : Type 0 where
   pub multiple : AllByRecursion (λ p. unsigned_abs (denominator p.value) ∣ m) parts
   pub least : (k : ℕ) → AllByRecursion (λ p. unsigned_abs (denominator p.value) ∣ k) parts → m ∣ k
 
--- the least number of copies has too many sides, and the part is the first whose denominator leads there: the least common
--- multiple of those before it hasn't too many, and with its own has
+-- the least number of copies has too many sides, and the part is the first whose denominator leads there: the least
+-- common multiple of those before it hasn't too many, and with its own has
 pub record HasManySides (c : Chain) (parts : List Part) (part so_far : ℕ) (next : ℤ) : Type 0 where
   pub over : (n : ℕ) → IsLeastWhole parts n → MAX_SIDES < n * weighted_length c
   pub here : Part

@@ -52,7 +52,8 @@ fn most_copies(length: u64) -> u128
     u128::from(MAX_SIDES as u64 / length.max(1))
 }
 
-/// The least number of copies for which each value is whole, or the first part whose denominator leads to too many sides.
+/// The least number of copies for which each value is whole, or the first part whose denominator leads to too many
+/// sides.
 fn least_multiple(chain: &Chain, parts: &[Part]) -> Result<u32, PartsFault>
     requires few { length parts.now < 2 ^ 32 }
     requires whole { weighted_length chain.now ≡ 0 → AllByRecursion (λ p. denominator p.value ≡ pos 1) parts.now }
@@ -100,8 +101,8 @@ fn counts_of(alloc: Global, n: u32, parts: &[Part]) -> Result<Vec<u32>, AllocErr
     Ok(counts)
 }
 
-/// The least number of copies of the chain for which each part stands a whole number of times, with these numbers. It is
-/// refused where so many copies have more sides than a fatgraph may have.
+/// The least number of copies of the chain for which each part stands a whole number of times, with these numbers. It
+/// is refused where so many copies have more sides than a fatgraph may have.
 pub fn multiples(alloc: Global, chain: &Chain, parts: Vec<Part>) -> Result<Multiples, PartsFault>
     requires few { length parts.items < 2 ^ 32 }
     requires values { AreValues chain.now parts.items }

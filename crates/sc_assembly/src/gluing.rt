@@ -61,8 +61,8 @@ fn glued_sides(alloc: Global, chain: &Chain, multiples: &Multiples) -> Result<Ve
     glue_laid(alloc, chain, &laid)
 }
 
-/// The labelled fatgraph that is glued of the copies of the parts' polygons. Its vertices are as many as the copies. It takes
-/// time and memory that grow with its sides alone.
+/// The labelled fatgraph that is glued of the copies of the parts' polygons. Its vertices are as many as the copies.
+/// It takes time and memory that grow with its sides alone.
 pub fn glue(alloc: Global, chain: &Chain, multiples: &Multiples) -> Result<Fatgraph, AllocError>
     requires some_copies { 1 ≤ multiples.now.n }
     requires few_copies { multiples.now.n ≤ MAX_COPIES }

@@ -12,7 +12,8 @@ pub fn balanced_chains_have_polygons()
     ensures { (c : Chain) → IsChain c → IsBalanced c → (parts : Parts) × AreBalanced c 1 parts }
 {}
 
-/// Values are known by one of their multiples: where the counts for some number of copies balance, those for each number do.
+/// Values are known by one of their multiples: where the counts for some number of copies balance, those for each
+/// number do.
 pub fn one_multiple_shows_the_values()
     ensures { (c : Chain) (parts : List Part) (n : ℕ) (counts : List ℕ) → 0 < n → AreCounts n parts counts → AreBalanced c n (counted parts counts) → AreValues c parts }
 {}

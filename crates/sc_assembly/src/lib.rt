@@ -1,5 +1,5 @@
-//! Polygons with values, the least number of copies for which each of them stands a whole number of times, and the labelled
-//! fatgraph that the copies are glued to.
+//! Polygons with values, the least number of copies for which each of them stands a whole number of times, and the
+//! labelled fatgraph that the copies are glued to.
 #![tactic(auto)]
 
 mod counting;

@@ -21,8 +21,8 @@ use Rattle.sc_text.specs.Surfaces.{ending, uncounted, IsChainInRange}
 use Rattle.sc_certificate.specs.PivotLines.{a_pivot, IsPivotInRange}
 use Rattle.sc_certificate.specs.Sizes.{IsSmallList, FitsCounts, list_of}
 
--- what a certificate says: a surface over copies of a chain and its value, a price list with its tables, and the journal
--- of a solver
+-- what a certificate says: a surface over copies of a chain and its value, a price list with its tables, and the
+-- journal of a solver
 pub record Certificate : Type 0 where
   pub chain : Chain
   pub value : Quotient

@@ -27,7 +27,8 @@ HasItsPairs h = h.pairs ≡ pairs h.chain
 abbrev pub behind : FrontTold → Quotient → Format BodyTold → Format Certificate
 behind x q b = and_then (and_then (and_then b (λ y. told (and_also q y))) (λ y. told (and_also x y))) (λ t. told (certificate_told t))
 
--- what is due where this is due of the heading and the words, or a head was read, and this is due of the body behind a head
+-- what is due where this is due of the heading and the words, or a head was read, and this is due of the body behind
+-- a head
 unfoldable pub lines_at : Format FrontTold → Option ChainAndValue → (ChainAndValue → Format BodyTold) → Format Certificate
 lines_at f None body = and_then (both_due f (λ x. both_due (one_due a_value None) (λ q. body (head_of x.second q)))) (λ t. told (certificate_told t))
 lines_at f (Some h) body = behind (and_also tt h.chain) h.value (body h)

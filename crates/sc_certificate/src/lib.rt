@@ -1,4 +1,5 @@
-//! The text of a certificate: a surface with a price list, the tables that vouch for the list, and the journal of a solver.
+//! The text of a certificate: a surface with a price list, the tables that vouch for the list, and the journal of a
+//! solver.
 #![tactic(auto)]
 
 mod bounds;

@@ -31,8 +31,8 @@ use sc_theory::Side;
 use std::alloc::Global;
 use std::marker::PhantomData;
 
-/// The parts of a certificate text behind its value, which are read by what is known by then: the copies, the sides, the
-/// scale, the prices of words and of pairs, the tables, the journal, and the last line.
+/// The parts of a certificate text behind its value, which are read by what is known by then: the copies, the sides,
+/// the scale, the prices of words and of pairs, the tables, the journal, and the last line.
 type Body = Pair<
     Free<One<CountLine>, Head>,
     Pair<
@@ -187,8 +187,8 @@ fn read_parts(alloc: Global, bytes: &[u8]) -> Result<CertificateText, TextFault>
     })
 }
 
-/// The certificate whose text the bytes are. A fault is the first line, counted from 1, that isn't as it is due, with the
-/// first kind that applies to it.
+/// The certificate whose text the bytes are. A fault is the first line, counted from 1, that isn't as it is due, with
+/// the first kind that applies to it.
 pub fn read_certificate_text(alloc: Global, bytes: &[u8]) -> Result<CertificateText, TextFault>
     // What is read is the certificate of which the bytes are the text.
     ensures text { IfOk result (λ t. bytes.now ≡ certificate_text (certificate_of t)) }

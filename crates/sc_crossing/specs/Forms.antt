@@ -39,8 +39,8 @@ IsRefusedAt f g Over x y =
 abbrev pub IsCrossRefused : Chain → Chain → Prices → Prices → CrossPlace → Frac → Frac → Type 0
 IsCrossRefused first second l m place x y = (f g : Form) × IsFormOf first second l f × IsFormOf first second m g × IsRefusedAt f g place x y
 
--- why there is no next direction between two neighbours: both lie inside the quadrant, and the crossing of their lists' forms is
--- refused; or the next direction s, t has a chain that is too long
+-- why there is no next direction between two neighbours: both lie inside the quadrant, and the crossing of their
+-- lists' forms is refused; or the next direction s, t has a chain that is too long
 abbrev pub IsNextFault : Quadrant → Chain → Chain → Reached → Reached → NextFault → Type 0
 IsNextFault q first second r u (Cross place x y) = IsInside r.direction × IsInside u.direction × IsCrossRefused first second r.list u.list place x y
 IsNextFault q first second r u (Length s t) =

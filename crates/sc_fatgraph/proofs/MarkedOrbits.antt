@@ -1,4 +1,5 @@
--- Marks on the orbits of the sides below one: the next side has none exactly where no turns take it to a smaller number.
+-- Marks on the orbits of the sides below one: the next side has none exactly where no turns take it to a smaller
+-- number.
 use Rattle.std.proofs.Common.{cond, ◌≡◌, ℕ, zero, suc, ◌+◌, ◌<◌, ◌≤◌, Bool, true, false, ◌⊎◌, nat_le, inl, inr, List, length, get_or, sym, ◌∙◌, ap, subst, refl, arith, add-one, add-zero}
 use Rattle.std.specs.Fn.{iterate}
 use Rattle.std.proofs.lemmas.Bool.{cases_lt, cases_Bool, and_cases, leb-false, false≢true}

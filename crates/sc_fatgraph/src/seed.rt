@@ -12,8 +12,9 @@ use sc_chain::Chain;
 use sc_gluing::seed_sides;
 use std::alloc::{AllocError, Global};
 
-/// The surface over one copy of a balanced chain whose sides go round the words, each word as often as its weight says: of the
-/// sides with a letter the first is the mate of the first with its inverse, the second of the second, and so on.
+/// The surface over one copy of a balanced chain whose sides go round the words, each word as often as its weight
+/// says: of the sides with a letter the first is the mate of the first with its inverse, the second of the second,
+/// and so on.
 pub fn seed_surface(alloc: Global, chain: &Chain) -> Result<Fatgraph, AllocError>
     requires { IsBalanced chain.now }
     ensures chain { IfOk result (λ f. f.chain ≡ chain.now) }

@@ -29,8 +29,8 @@ pub struct SurfaceText {
     pub sides: Sides,
 }
 
-/// The chain, the copies and the sides whose text the bytes are. A fault is the first line, counted from 1, that isn't as
-/// it is due, with the first kind that applies to it.
+/// The chain, the copies and the sides whose text the bytes are. A fault is the first line, counted from 1, that
+/// isn't as it is due, with the first kind that applies to it.
 pub fn read_surface(alloc: Global, bytes: &[u8]) -> Result<SurfaceText, TextFault>
     // What is read is the surface of which the bytes are the text.
     ensures text { IfOk result (λ s. bytes.now ≡ surface_text s.chain s.n s.sides) }

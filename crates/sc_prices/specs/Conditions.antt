@@ -38,8 +38,8 @@ certificate_of s = stated (surface s.chain s.n s.sides) s.value s.list s.tables 
 abbrev pub HasItsValue : Certificate → Type 0
 HasItsValue v = SameQuotient v.value.0 v.value.1 (cost v.sides) (pos (2 * v.copies))
 
--- the conditions: the sides are a labelled fatgraph, the value is its fraction, the tables vouch for the list, and the list
--- is tight for the fatgraph
+-- the conditions: the sides are a labelled fatgraph, the value is its fraction, the tables vouch for the list, and
+-- the list is tight for the fatgraph
 pub record AllHold (v : Certificate) : Type 0 where
   pub fatgraph : IsFatgraph v.chain v.copies v.sides
   pub value : HasItsValue v

@@ -17,8 +17,8 @@ use sc_fatgraph::{Fatgraph, Sides, SurfaceFault};
 use sc_fraction::Frac;
 use std::alloc::{AllocError, Global};
 
-/// A surface with its value, a price list with tables that are to vouch for it, and the journal of a solver. Whether they
-/// show anything is for `judge` to say.
+/// A surface with its value, a price list with tables that are to vouch for it, and the journal of a solver. Whether
+/// they show anything is for `judge` to say.
 #[derive(Debug, Drop)]
 pub struct Certificate {
     /// The chain.
@@ -41,8 +41,8 @@ impl Certificate {
     ghost use Rattle.sc_prices.specs.declared.verdict.Condition.{Condition as AnyCondition};
     ghost use Rattle.sc_prices.specs.Conditions.{certificate_of, AllHold, IsFirstFailing, IsVerdictOn, IfOptimal};
 
-    /// The certificate whose text the bytes are. A fault is the first line, counted from 1, that isn't as it is due, with the
-    /// first kind that applies to it.
+    /// The certificate whose text the bytes are. A fault is the first line, counted from 1, that isn't as it is due,
+    /// with the first kind that applies to it.
     pub fn read(alloc: Global, bytes: &[u8]) -> Result<Certificate, TextFault>
         // What is read is the certificate of which the bytes are the text.
         ensures text { IfOk result (λ s. bytes.now ≡ certificate_text (certificate_of s)) }

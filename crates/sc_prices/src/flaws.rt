@@ -8,8 +8,9 @@ pub enum TableFlaw {
         /// The start.
         start: u32,
     },
-    /// In the row of the start there is an entry at `from`, and the entry plus the price of the step to `to` is less than
-    /// the entry at `to`, or there is no entry at `to`. Where the step leads back to the start, it is less than the scale.
+    /// In the row of the start there is an entry at `from`, and the entry plus the price of the step to `to` is less
+    /// than the entry at `to`, or there is no entry at `to`. Where the step leads back to the start, it is less than
+    /// the scale.
     Step {
         /// The start.
         start: u32,

@@ -1,5 +1,5 @@
-//! Price lists: the tables that vouch for a list, the tight ones, and certificates, which are judged: a certificate whose
-//! conditions all hold shows that its fatgraph is least, whoever wrote it.
+//! Price lists: the tables that vouch for a list, the tight ones, and certificates, which are judged: a certificate
+//! whose conditions all hold shows that its fatgraph is least, whoever wrote it.
 #![tactic(auto)]
 
 mod certificate;

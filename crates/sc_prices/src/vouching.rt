@@ -84,8 +84,8 @@ fn first_flaw_from(
     None
 }
 
-/// Whether the tables vouch for the list, else their first flaw: by start; for a start first that its row doesn't have 0
-/// there, then the steps by their beginning, then their end.
+/// Whether the tables vouch for the list, else their first flaw: by start; for a start first that its row doesn't
+/// have 0 there, then the steps by their beginning, then their end.
 pub fn vouch(
     chain: &Chain,
     pairs: &Pairs,

@@ -78,8 +78,8 @@ abbrev pub wide_text : Chain → List Pivot → WideAt → List ℕ
 wide_text c journal at = headed_text wide_heading (wide_body c journal at)
 
 -- ---- the glued surface would have too many sides
--- the value of a part, the least common multiple of the denominators before it, its own denominator, and the weighted length
--- of the chain
+-- the value of a part, the least common multiple of the denominators before it, its own denominator, and the weighted
+-- length of the chain
 abbrev pub multiple_lines : Frac → ℕ → ℤ → ℕ → List Line
 multiple_lines value so_far next length =
     value_line (quotient_of value)

@@ -88,8 +88,8 @@ pub fn wide_text(
     Ok(text)
 }
 
-/// The text of a solver whose surface would have too many sides: by the part with its value, the least common multiple of
-/// the denominators before it, and its own denominator.
+/// The text of a solver whose surface would have too many sides: by the part with its value, the least common
+/// multiple of the denominators before it, and its own denominator.
 pub fn sides_text(
     alloc: Global,
     chain: &Chain,

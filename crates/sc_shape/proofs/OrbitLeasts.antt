@@ -1,4 +1,5 @@
--- Least numbers of classes under one permutation are the least numbers of its orbits; classes of tables are those of the maps.
+-- Least numbers of classes under one permutation are the least numbers of its orbits; classes of tables are those of
+-- the maps.
 use Rattle.std.proofs.Common.{◌≡◌, ◌≢◌, ℕ, zero, suc, ◌+◌, ◌<◌, ◌≤◌, ◌==◌, Bool, true, false, ◌⊎◌, inl, inr, List, [], ◌∷◌, length, sym, ◌∙◌, ap, refl, arith, if◌then◌else◌}
 use Rattle.std.specs.Fn.{iterate}
 use Rattle.std.proofs.lemmas.Bool.{cases_Bool, eq-eqb, ne_eqb}

@@ -63,8 +63,8 @@ pub record IsReached (f g : ℕ → ℕ) (n : ℕ) (before : List Bool) (start :
   pub labelled : entry least s ≡ start
   pub marked : IsMarked marks s
 
--- what the search keeps: the marks are those before it and those of the numbers reached, and the first `done` of these have
--- their steps marked
+-- what the search keeps: the marks are those before it and those of the numbers reached, and the first `done` of
+-- these have their steps marked
 pub record Spreads (f g : ℕ → ℕ) (n : ℕ) (before : List Bool) (least_before : List ℕ) (start : ℕ) (marks : List Bool) (least : List ℕ) (reached : List ℕ) (done : ℕ) : Type 0 where
   pub as_many_marks : length marks ≡ n
   pub as_many : length least ≡ n

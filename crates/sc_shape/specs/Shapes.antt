@@ -23,8 +23,8 @@ pub record IsLeastOfBoundary (g : Sides) (s r : ℕ) : Type 0 where
   pub on_cycle : (k : ℕ) × (iterate (next g) k r ≡ s)
   pub least : (t k : ℕ) → t < length g → iterate (next g) k t ≡ s → r ≤ t
 
--- the boundary whose least side is s, where `boundary` names the least side of each side's boundary: its word is that of
--- its labels, its degree the number of its sides divided by the length of the word
+-- the boundary whose least side is s, where `boundary` names the least side of each side's boundary: its word is that
+-- of its labels, its degree the number of its sides divided by the length of the word
 abbrev pub boundary_of : Chain → Sides → (ℕ → ℕ) → ℕ → Boundary
 boundary_of c g boundary s =
     record {
@@ -33,7 +33,8 @@ boundary_of c g boundary s =
       degree = count_below (λ t. boundary t == s) (length g) / length (word c (word_of c (label g s)));
     }
 
--- the component whose least side is r, where `component` and `boundary` name the least side of each side's component and boundary
+-- the component whose least side is r, where `component` and `boundary` name the least side of each side's component
+-- and boundary
 abbrev pub component_of : Chain → Sides → (ℕ → ℕ) → (ℕ → ℕ) → ℕ → Component
 component_of c g component boundary r =
     record {
@@ -44,7 +45,8 @@ component_of c g component boundary r =
       boundaries = map (boundary_of c g boundary) (list_below (λ s. (boundary s == s) && (component s == r)) (length g));
     }
 
--- the components of a list of sides over a chain, in the order of their least sides, each with its boundaries in the order of theirs
+-- the components of a list of sides over a chain, in the order of their least sides, each with its boundaries in the
+-- order of theirs
 pub record AreComponents (c : Chain) (g : Sides) (components : List Component) : Type 0 where
   -- the least side of the component of each side, and of its boundary
   pub component : ℕ → ℕ

@@ -6,7 +6,8 @@ ghost use Rattle.sc_shape.specs.Classes.{entry};
 
 use std::alloc::{AllocError, Global};
 
-/// Marks a number, with the least number of its class, and puts it after those that were reached, if it has no mark yet.
+/// Marks a number, with the least number of its class, and puts it after those that were reached, if it has no mark
+/// yet.
 fn reach(
     marks: &mut [bool],
     least: &mut [u32],

@@ -14,8 +14,8 @@ fn shape_of(rt: &impl Abort, alloc: Global, text: &[u8]) -> Result<Vec<Component
     components(alloc, &fatgraph)
 }
 
-/// The numbers of components in a row: of each the least side, the sides, vertices, edges and boundaries, then of each boundary
-/// the least side, the word and the degree.
+/// The numbers of components in a row: of each the least side, the sides, vertices, edges and boundaries, then of
+/// each boundary the least side, the word and the degree.
 fn numbers_of(alloc: Global, found: &[Component]) -> Result<Vec<u32>, AllocError> {
     let mut numbers = Vec::new(alloc);
     for component in found {
@@ -83,7 +83,8 @@ fn euler_numbers(rt: HostRuntime) -> Result<(), AllocError> {
 /// Half of the sides of the greatest surfaces.
 const HALF: u32 = 524_288;
 
-/// A surface over 2^19 copies of `a` and `A`: the sides of each word are joined to one boundary, or are boundaries of their own.
+/// A surface over 2^19 copies of `a` and `A`: the sides of each word are joined to one boundary, or are boundaries of
+/// their own.
 fn many_sides(rt: &impl Abort, alloc: Global, joined: bool) -> Result<Fatgraph, AllocError> {
     let text = b"scallop surface 1\nwords 2\nword 1 a\nword 1 A\ncopies 1\nsides 0\nend\n";
     let chain = read_surface(alloc, text).expect(rt, "a text").chain;

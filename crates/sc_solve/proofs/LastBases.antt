@@ -1,4 +1,5 @@
--- What the optimal last basis of a journal of polygons gives: values, balanced parts, and the vertices of what is glued of them.
+-- What the optimal last basis of a journal of polygons gives: values, balanced parts, and the vertices of what is
+-- glued of them.
 use Rattle.std.proofs.Common.{◌≡◌, ℕ, zero, suc, ◌+◌, ◌*◌, ◌/◌, ◌<◌, List, [], ◌∷◌, length, get_or, set, replicate, nat_lt, Bool, true, false, cond, slice_get, Option, Some, None, ℤ, pos, negsuc, ◌*ℤ◌, ◌≤ℤ◌, unsigned_abs, arith, refl, sym, ap, subst, ◌∙◌}
 use Rattle.std.specs.Prelude.{sum, IfSome}
 use Rattle.std.specs.Option.{option_map}

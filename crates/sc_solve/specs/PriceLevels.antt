@@ -10,7 +10,8 @@ use Rattle.sc_rows.specs.Standing.{entries_of}
 use Rattle.sc_rows.specs.declared.prices.PriceRow.{PriceRow}
 use Rattle.sc_rows.specs.declared.prices.PriceRows.{PriceRows}
 
--- a number for each row over a scale, as a price list: the rows of the pairs come first, and after them those of the words
+-- a number for each row over a scale, as a price list: the rows of the pairs come first, and after them those of the
+-- words
 abbrev pub list_by : Chain → (ℕ → ℤ) → ℤ → Prices
 list_by c v scale =
     record {

@@ -80,8 +80,8 @@ pub record ArePartsOf (c : Chain) (journal : List Pivot) (parts : List Part) : T
   pub stands : Stands (rows c) (last_basis c journal) numbers
   pub in_order : ArePartsFrom c numbers 0 (last_items c journal) parts
 
--- the surface that is glued of the parts of the last basis: over the least number of copies that makes each value whole,
--- each polygon so often as its value says
+-- the surface that is glued of the parts of the last basis: over the least number of copies that makes each value
+-- whole, each polygon so often as its value says
 pub record IsGluedOf (c : Chain) (journal : List Pivot) (f : Surface) : Type 0 where
   pub over : f.chain ≡ c
   pub parts : List Part
@@ -133,16 +133,16 @@ pub record IsWideInLift (c : Chain) (journal : List Pivot) (at : WideAt) : Type 
   pub optimal : IsOptimalEnd c journal prices
   pub wide : IsWideLift c prices at
 
--- after the journal an operation is too wide: of the search for an improving polygon, of the values or of the next pivot, or
--- of the lift
+-- after the journal an operation is too wide: of the search for an improving polygon, of the values or of the next
+-- pivot, or of the lift
 pub record IsWideAfter (c : Chain) (budget : ℕ) (journal : List Pivot) (at : WideAt) : Type 0 where
   pub lawful : IsJournalOf c budget journal
   pub wide : IsShownAfter (IsWideSearch c) (rows c) (pivots_of c journal) at
       ⊎ IsWideOperation (IsPolygonColumn c) (rows c) (right_side c) budget (length journal) (pivots_of c journal) at
       ⊎ IsWideInLift c journal at
 
--- the last basis is optimal, and the least number of copies that makes the values of its parts whole has too many sides. The
--- part is the first whose denominator leads there
+-- the last basis is optimal, and the least number of copies that makes the values of its parts whole has too many
+-- sides. The part is the first whose denominator leads there
 pub record HasManyCopies (c : Chain) (budget : ℕ) (journal : List Pivot) (part : Part) (so_far : ℕ) (next : ℤ) : Type 0 where
   pub lawful : IsJournalOf c budget journal
   pub prices : PriceRows

@@ -119,7 +119,8 @@ fn part_at(mut parts: Vec<Part>, place: usize) -> Part
     parts.swap_remove(place)
 }
 
-/// The surface that is glued of parts, over the least number of copies for which each of them stands a whole number of times.
+/// The surface that is glued of parts, over the least number of copies for which each of them stands a whole number
+/// of times.
 fn glued(alloc: Global, chain: &Chain, parts: Vec<Part>) -> Result<Fatgraph, PartsFault>
     requires few { length parts.items < 2 ^ 32 }
     requires values { AreValues chain.now parts.items }
@@ -146,8 +147,8 @@ fn part_stop(parts: Vec<Part>, fault: PartsFault) -> PartStop
     }
 }
 
-/// The surface that is glued of the polygons that stand in the rows after the pivots, which have these values; or the part
-/// that leads to too many sides.
+/// The surface that is glued of the polygons that stand in the rows after the pivots, which have these values; or the
+/// part that leads to too many sides.
 pub(crate) fn surface_of(
     alloc: Global,
     chain: &Chain,

@@ -17,8 +17,8 @@ ghost use Rattle.sc_solve.specs.PriceLevels.{list_by, list_at, price_levels, thr
 ghost use Rattle.sc_solve.specs.PolygonColumns.{column_entries, IsPolygonColumn};
 ghost use Rattle.sc_solve.specs.Lifts.{IsLift};
 
-/// The product of prices of the rows with the column of a closed walk is the walk's total at these prices, and their product
-/// with the right side is the bound.
+/// The product of prices of the rows with the column of a closed walk is the walk's total at these prices, and their
+/// product with the right side is the bound.
 pub fn columns_price_their_walks()
     ensures walks { (c : Chain) (v : ℕ → ℤ) (scale : ℤ) (walk : List ℕ) → IsChain c → IsClosedWalk c walk →
         dot (rows c) v (column c walk) ≡ walk_total (price c (list_by c v scale)) walk }
@@ -35,8 +35,8 @@ pub fn lifted_prices_are_sums()
         bound c (lifted_list c p factor) ≡ bound c (list_at c p Fine) +ℤ factor *ℤ bound c (list_at c p Bulk) }
 {}
 
-/// Where no polygon improves, every closed walk costs at least 0 in bulk and, where that is all, the scale in fine; and the
-/// other way round.
+/// Where no polygon improves, every closed walk costs at least 0 in bulk and, where that is all, the scale in fine;
+/// and the other way round.
 pub fn optimal_prices_bound_closed_walks()
     ensures closed { (c : Chain) (p : PriceRows) → IsChain c → ArePrices (rows c) p →
         NoneImproves (IsPolygonColumn c) (rows c) p → AllAtLeast c (price_levels c p) (threshold_of p) }
@@ -44,7 +44,8 @@ pub fn optimal_prices_bound_closed_walks()
         AllAtLeast c (price_levels c p) (threshold_of p) → NoneImproves (IsPolygonColumn c) (rows c) p }
 {}
 
-/// The lift of prices at which no polygon improves covers: every closed walk costs at least the scale. There is one lift.
+/// The lift of prices at which no polygon improves covers: every closed walk costs at least the scale. There is one
+/// lift.
 pub fn lifts_cover()
     ensures covers { (c : Chain) (p : PriceRows) (list : Prices) → IsChain c → ArePrices (rows c) p →
         NoneImproves (IsPolygonColumn c) (rows c) p → IsLift c p list → Covers c list }

@@ -1,6 +1,6 @@
-//! The solver of chains: an extremal surface with what shows that it is one. The polygons of a chain are columns of the simplex
-//! that are made on demand; the prices of the optimal basis become one price list with its distance tables, and the surface is
-//! glued of the polygons of that basis.
+//! The solver of chains: an extremal surface with what shows that it is one. The polygons of a chain are columns of
+//! the simplex that are made on demand; the prices of the optimal basis become one price list with its distance
+//! tables, and the surface is glued of the polygons of that basis.
 #![tactic(auto)]
 
 mod assembling;

@@ -296,8 +296,8 @@ fn lifted(
     Ok(PriceList::of_small(scale, base, pair))
 }
 
-/// The lift of the prices of a basis: each fine price plus M times the bulk price, over the fine scale. M is 0 where all bulk
-/// prices are 0, and else the fine scale plus the positions times the greatest size of a fine step price.
+/// The lift of the prices of a basis: each fine price plus M times the bulk price, over the fine scale. M is 0 where
+/// all bulk prices are 0, and else the fine scale plus the positions times the greatest size of a fine step price.
 pub fn lift(
     alloc: Global,
     chain: &Chain,

@@ -31,7 +31,8 @@ use sc_weight::Pair;
 use std::alloc::{AllocError, Global};
 use std::marker::Model;
 
-/// What finds the polygons of a chain that improve a basis. It holds candidates, of which it tries one before it searches.
+/// What finds the polygons of a chain that improve a basis. It holds candidates, of which it tries one before it
+/// searches.
 #[derive(Drop)]
 pub struct PolygonOracle {
     chain: Chain,
@@ -103,7 +104,8 @@ fn known_polygon(
     }
 }
 
-/// A polygon below the threshold by the searches from the greatest start down. That a total is too wide is no answer here.
+/// A polygon below the threshold by the searches from the greatest start down. That a total is too wide is no answer
+/// here.
 fn polygon_from_above(
     alloc: Global,
     chain: &Chain,
@@ -208,8 +210,8 @@ fn cheap_at(
     }
 }
 
-/// The column of a polygon that improves a basis with these prices; none only where no polygon does, and every closed walk
-/// is at least the threshold.
+/// The column of a polygon that improves a basis with these prices; none only where no polygon does, and every closed
+/// walk is at least the threshold.
 fn improving_column(
     alloc: Global,
     chain: &Chain,

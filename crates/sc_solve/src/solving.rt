@@ -140,13 +140,14 @@ pub(crate) fn solution_of(
     }
 }
 
-/// A surface over copies of a balanced chain whose cost for each copy is the least that any has, by at most `budget` pivots.
+/// A surface over copies of a balanced chain whose cost for each copy is the least that any has, by at most `budget`
+/// pivots.
 pub fn extremal(alloc: Global, chain: &Chain, budget: u32) -> Result<Solution, SolveFault>
     requires balanced { IsBalanced chain.now }
     requires budget { 0 < budget }
 
-    // The surface is a labelled fatgraph over the copies, the value is its fraction, and no labelled fatgraph over any number of
-    // copies has a smaller one.
+    // The surface is a labelled fatgraph over the copies, the value is its fraction, and no labelled fatgraph over
+    // any number of copies has a smaller one.
     ensures chain { IfOk result (λ s. s.fatgraph.chain ≡ chain.now) }
     ensures copies { IfOk result (λ s. s.fatgraph.copies ≡ s.n) }
     ensures fatgraph { IfOk result (λ s. IsFatgraph chain.now s.n s.fatgraph.sides) }

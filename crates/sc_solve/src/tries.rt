@@ -1,5 +1,5 @@
-//! Tries, one after another, each with candidates of another mode of advice. A refusal of the last journal is told with that very
-//! journal.
+//! Tries, one after another, each with candidates of another mode of advice. A refusal of the last journal is told
+//! with that very journal.
 
 ghost use Rattle.std.specs.Prelude.{◌≡◌, ◌<◌, ◌≤◌, ℕ, IfOk, IfErr, IfSome};
 ghost use Rattle.sc_theory.specs.Chains.{Chain as AnyChain, IsBalanced};
@@ -46,8 +46,8 @@ fn sum_of(values: &[Frac]) -> Option<Frac> {
     Some(sum)
 }
 
-/// Whether each surface whose vertices are so many for each copy has too many sides: it runs round the chain a multiple of
-/// half the denominator of its value, or of the denominator where that is odd.
+/// Whether each surface whose vertices are so many for each copy has too many sides: it runs round the chain a
+/// multiple of half the denominator of its value, or of the denominator where that is odd.
 fn is_forced(chain: &Chain, vertices: &Frac) -> bool {
     let length = i128::from(chain.length());
     // Nothing bounds the values here, and no contract speaks of the answer, so what doesn't fit is cut off.

@@ -28,7 +28,8 @@ pub record IsGreatest (corners : List Spot) (k : Extent) : Type 0 where
   pub greatest : All (λ c. has_point c ≡ true → IsAtMost (size_of c) k) corners
   pub taken : (k.over ≡ 0) ⊎ ((c : Spot) × Contains corners c × (has_point c ≡ true) × (size_of c ≡ k))
 
--- the coordinate z * den / num of a corner's point as it is drawn: 900 times its part of the greatest size k, cut toward 0
+-- the coordinate z * den / num of a corner's point as it is drawn: 900 times its part of the greatest size k, cut
+-- toward 0
 abbrev pub drawn : Extent → Spot → ℤ → ℤ
 drawn k c z = cut z (900 * unsigned_abs c.den * k.under) (unsigned_abs c.num * k.over)
 

@@ -73,8 +73,8 @@ fn print_letters(
     Ok(())
 }
 
-/// The drawing of a fatgraph: its vertices as lines side by side, in the order of their least sides, with the letter of each
-/// side below it, and its edges as arcs between their two sides.
+/// The drawing of a fatgraph: its vertices as lines side by side, in the order of their least sides, with the letter
+/// of each side below it, and its edges as arcs between their two sides.
 pub fn draw(alloc: Global, fatgraph: &Fatgraph) -> Result<Vec<u8>, AllocError>
     ensures { IfOk result (λ bytes. drawings.IsDrawing fatgraph.now.chain fatgraph.now.sides bytes.items) }
 {

@@ -124,9 +124,9 @@ fn print_edges(corners: &[Spot], greatest: Extent, out: &mut Vec<u8>) -> Result<
     Ok(())
 }
 
-/// The drawing of the corners of a fan: the lines between neighbouring ones in the unit ball, and the same on the other side
-/// of the origin. A corner has the value of its direction, and its point is where the ball ends there; where the value is 0
-/// the ball has no end, and an edge leads out of the drawing.
+/// The drawing of the corners of a fan: the lines between neighbouring ones in the unit ball, and the same on the
+/// other side of the origin. A corner has the value of its direction, and its point is where the ball ends there;
+/// where the value is 0 the ball has no end, and an edge leads out of the drawing.
 pub fn draw_fan(alloc: Global, corners: &[Spot]) -> Result<Vec<u8>, AllocError>
     ensures { IfOk result (λ bytes. IsFanDrawing corners.now bytes.items) }
 {

@@ -12,8 +12,8 @@ use sc_fatgraph::{Fatgraph, Side};
 use sc_shape::least_of_vertices;
 use std::alloc::{AllocError, Global};
 
-/// The sides in the order in which they stand, the x of each, and at the least side of each vertex its last one; the least
-/// side of the vertex of each side, and how many vertices there are.
+/// The sides in the order in which they stand, the x of each, and at the least side of each vertex its last one; the
+/// least side of the vertex of each side, and how many vertices there are.
 #[derive(Drop)]
 pub(crate) struct Layout {
     pub(crate) order: Vec<u32>,
@@ -23,8 +23,8 @@ pub(crate) struct Layout {
     pub(crate) vertices: u32,
 }
 
-/// Lays the sides round the vertex whose least side is `start`, the vertex number `vertex`, behind those in the order, and
-/// answers the last of them.
+/// Lays the sides round the vertex whose least side is `start`, the vertex number `vertex`, behind those in the
+/// order, and answers the last of them.
 fn lay_vertex(
     sides: &[Side],
     start: u32,

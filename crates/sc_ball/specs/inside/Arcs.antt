@@ -24,8 +24,8 @@ abbrev pub IsTightLast : Quadrant → Chain → Chain → Option Edge → Direct
 IsTightLast q first second None d = ⊥
 IsTightLast q first second (Some e) d = IsTightAt q first second e.list d
 
--- corners and edges, the last of each apart, from an end of the quadrant to the last of n entries of a search. Its list is
--- there to spare where it isn't that of the last edge
+-- corners and edges, the last of each apart, from an end of the quadrant to the last of n entries of a search. Its
+-- list is there to spare where it isn't that of the last edge
 pub record AreArcTo (q : Quadrant) (first second : Chain) (corners : List Corner) (last : Corner) (edges : List Edge) (edge : Option Edge) (spare : Option Prices) (n : ℕ) (r : Reached) : Type 0 where
   pub arc : IsArc q first second (corners ++ last ∷ []) (edges ++ option_to_list edge)
   pub begins : (get_or (corners ++ last ∷ []) 0 no_corner).direction ≡ first_end q
@@ -34,7 +34,8 @@ pub record AreArcTo (q : Quadrant) (first second : Chain) (corners : List Corner
   pub spare_is : IsSpareOf (list_in edge) r.list spare
   pub few : length corners < n
 
--- a list for the edge between two neighbours, that of the one or of the other, with the other's list where that is another
+-- a list for the edge between two neighbours, that of the one or of the other, with the other's list where that is
+-- another
 pub record IsChosen (q : Quadrant) (first second : Chain) (r u : Reached) (list : Prices) (spare : Option Prices) : Type 0 where
   pub of_one : (list ≡ r.list) ⊎ (list ≡ u.list)
   pub at_first : IsTightAt q first second list r.direction

@@ -1,4 +1,5 @@
--- Said by private functions alone: A direction of a quadrant that is solved: its value, with a list that is tight there.
+-- Said by private functions alone: a direction of a quadrant that is solved: its value, with a list that is tight
+-- there.
 use Rattle.std.specs.Prelude.{◌≤◌, unsigned_abs}
 use Rattle.sc_theory.specs.Chains.{Chain}
 use Rattle.sc_chain.specs.declared.limits.TheConstants.{MAX_LENGTH}
@@ -20,8 +21,8 @@ pub record IsSmall (d : Direction) : Type 0 where
   pub first : unsigned_abs d.s ≤ MAX_LENGTH
   pub second : unsigned_abs d.t ≤ MAX_LENGTH
 
--- the list covers the quadrant's chain and is tight at the direction, which has this value. The numbers are such as a fan may
--- have
+-- the list covers the quadrant's chain and is tight at the direction, which has this value. The numbers are such as a
+-- fan may have
 pub record IsSolvedIn (q : Quadrant) (first second : Chain) (s : Solved) : Type 0 where
   pub reached : IsReached q first second (seen s)
   pub value : IsValueOf (chain_of q first second s.reached.direction) (numerator s.value) (denominator s.value)

@@ -6,7 +6,8 @@ use Rattle.sc_crossing.specs.declared.fault.NextFault.TheVariants.{Cross, Length
 use Rattle.sc_crossing.specs.declared.form.Form.{Form}
 use Rattle.sc_crossing.specs.Forms.{IsRefusedAt}
 
--- c is where two forms cross: what the second gives more for the second chain, over what the first gives more for the first
+-- c is where two forms cross: what the second gives more for the second chain, over what the first gives more for the
+-- first
 abbrev pub IsCrossing : Form → Form → Frac → Type 0
 IsCrossing f g c = (more_second more_first : Frac) × IsDifference g.second f.second more_second × IsDifference f.first g.first more_first × IsRatio more_second more_first c
 

@@ -3,7 +3,8 @@ use Rattle.std.specs.Prelude.{◌≡◌, ℕ, ◌<◌, Bool, true, false, List, 
 use Rattle.std.specs.Fn.{iterate}
 use Rattle.sc_theory.specs.Fatgraphs.{Sides, mate, next, turn}
 
--- a fatgraph without its labels: every mate and next is a side, the mate of the mate is the side, and no two sides have the same next
+-- a fatgraph without its labels: every mate and next is a side, the mate of the mate is the side, and no two sides
+-- have the same next
 pub record IsRibbon (g : Sides) : Type 0 where
   pub mates : (s : ℕ) → s < length g → mate g s < length g
   pub nexts : (s : ℕ) → s < length g → next g s < length g

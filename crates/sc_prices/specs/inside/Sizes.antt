@@ -1,4 +1,5 @@
--- Said by private functions alone: what is counted over a chain, and how large the numbers are that prices are added up to.
+-- Said by private functions alone: what is counted over a chain, and how large the numbers are that prices are added
+-- up to.
 use Rattle.std.specs.Prelude.{ℕ, ℤ, pos, neg_ℤ, ◌*ℤ◌, ◌≤ℤ◌}
 use Rattle.sc_text.specs.declared.limits.TheConstants.{MAX_PRICE}
 

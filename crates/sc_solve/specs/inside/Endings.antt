@@ -32,7 +32,8 @@ use Rattle.sc_solve.specs.declared.solution.SolveFault.TheVariants.{Budget, Wide
 
 -- ---- the optimal basis
 
--- a lawful journal to an optimal basis, with its prices and the values of its items, and the number of different polygons
+-- a lawful journal to an optimal basis, with its prices and the values of its items, and the number of different
+-- polygons
 pub record IsEndingBy (c : Chain) (budget : ℕ) (journal : List Pivot) (prices : PriceRows) (values : List Frac) (columns : ℕ) : Type 0 where
   pub lawful : IsJournalOf c budget journal
   pub optimal : IsOptimalEnd c journal prices

@@ -1,4 +1,5 @@
--- Said by private functions alone: what the prices of steps and the totals of walks show that don't fit, for given prices of a basis.
+-- Said by private functions alone: what the prices of steps and the totals of walks show that don't fit, for given
+-- prices of a basis.
 use Rattle.std.specs.Prelude.{ℕ, List, Option, Some, None}
 use Rattle.sc_theory.specs.Chains.{Chain}
 use Rattle.sc_weight.specs.Levels.{Levels}

@@ -13,8 +13,8 @@ use Rattle.sc_svg.specs.Drawings.{last_side}
 abbrev pub x_in_orbit : (ℕ → ℕ) → ℕ → ℕ → ℕ → ℕ
 x_in_orbit t n r i = 20 * (length (order_below t n r) + i + 1 + count_below (is_least_for t n) r)
 
--- the orbits whose least side is below r are laid out: the sides in order, the x of each, 0 at the others, and at the least
--- side of each orbit its last
+-- the orbits whose least side is below r are laid out: the sides in order, the x of each, 0 at the others, and at the
+-- least side of each orbit its last
 pub record AreLaidBelow (t : ℕ → ℕ) (n r : ℕ) (order xs lasts : List ℕ) : Type 0 where
   pub as_many : length xs ≡ n
   pub as_many_lasts : length lasts ≡ n

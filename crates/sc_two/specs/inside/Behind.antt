@@ -1,4 +1,4 @@
--- Said by private functions alone: A chain text that stands behind other lines.
+-- Said by private functions alone: a chain text that stands behind other lines.
 use Rattle.std.specs.Prelude.{◌≡◌, ℕ, suc, ◌+◌, ◌<◌, ◌≤◌, ◌^◌, List, length, IsSome}
 use Rattle.std.specs.List.{All}
 use Rattle.sc_line.specs.declared.fault.Kind.{Kind}
