@@ -1,86 +1,21 @@
 -- Laws of the line of a corner.
-use Rattle.std.proofs.Common.{◌≡◌, ℕ, ◌≤◌, ◌+◌, ◌<◌, nat_lt, true, false, ◌&&◌, List, [], ◌∷◌, ◌++◌, Option, Some, None, codes, ℤ, pos, neg_ℤ, ◌<ℤ◌, ◌≤ℤ◌, unsigned_abs, refl, sym, ap, subst, ◌∙◌, arith, inl, inr}
+use Rattle.std.proofs.Common.{◌≡◌, ◌+◌, ◌<◌, nat_lt, true, false, ◌&&◌, List, [], ◌∷◌, Option, Some, None, codes, ℤ, pos, neg_ℤ, ◌≤ℤ◌, unsigned_abs, refl, sym, ◌∙◌, arith, inl, inr}
 use Rattle.std.proofs.lemmas.Bool.{cases_Bool, and_parts, and_from, lt-ltb, ltb-true}
-use Rattle.std.proofs.lemmas.Int.{ints}
 use Rattle.std.proofs.lemmas.Option.{none-some}
-use Rattle.std.specs.List.{join_with_byte}
-use Rattle.std.proofs.lemmas.List.Splits.{join_with_byte-slice_split}
-use Rattle.sc_fraction.specs.declared.frac.Frac.{Frac}
-use Rattle.sc_fraction.specs.Frac.{numerator, denominator}
 use Rattle.sc_fraction.specs.Quotient.{quotient_text}
-use Rattle.sc_fraction.proofs.Arithmetic.{size_positive}
 use Rattle.sc_whole.specs.Spelling.{spelling}
 use Rattle.sc_line.specs.declared.fault.Kind.{Kind}
 use Rattle.sc_line.specs.declared.fault.Kind.TheVariants.{Form, Range}
 use Rattle.sc_line.specs.Lines.{Line, Field, fields, number_of, lacks}
-use Rattle.sc_line.specs.Faults.{between, from_to}
+use Rattle.sc_line.specs.Faults.{from_to}
 use Rattle.sc_line.specs.Formats.{IsLineKind}
 use Rattle.sc_line.proofs.LineLaws.{number_of_is, fields-spaced, lacks-append, lacks-spelling, number_of-spelling, named_is, line_from_fields, in_range_test, in_range_from_test}
 use Rattle.sc_line.proofs.NumberLaws.{IsLineOf, kind_from, named_inverse}
-use Rattle.sc_text.specs.ValueLines.{Quotient, quotient_of, halves, are_coprime, quotient_fault, fraction_fault}
-use Rattle.sc_text.proofs.CoprimeLaws.{coprime_test, coprime_from_test}
-use Rattle.sc_text.proofs.KindLaws.{halves-quotient_text}
+use Rattle.sc_text.proofs.ValueLaws.{halves-quotient_text, good_fraction, fraction_from}
 use Rattle.sc_text.proofs.FeedLaws.{lacks-spaced, lacks-number}
 use Rattle.sc_cone.specs.Fans.{Corner as PlaneCorner}
 use Rattle.sc_fan.specs.declared.limits.TheConstants.{MAX_DIRECTION, MAX_VALUE}
-use Rattle.sc_fan.specs.Corners.{corner_line, is_direction, or_range, corner_fault, corner_value_fault, corner_fields_fault, corner_row, corner_in, IsCornerValue, IsCornerInRange}
-
--- ---- the value
-
--- a fraction in lowest terms whose numbers are in their ranges may be the value of a corner
-pub value_in_range : (v : Frac) (n d : ℕ) → numerator v ≡ pos n → denominator v ≡ pos d → n ≤ MAX_VALUE → 1 ≤ d → d ≤ MAX_VALUE → IsCornerValue (quotient_of v)
-value_in_range v n d num den n_high d_low d_high = record {
-  num_low = subst (λ (t : ℤ). pos 0 ≤ℤ t) (sym num) (omega (arith, ints));
-  num_high = subst (λ (t : ℤ). t ≤ℤ pos MAX_VALUE) (sym num) (omega (arith, ints));
-  den_low = subst (λ (t : ℤ). pos 1 ≤ℤ t) (sym den) (omega (arith, ints));
-  den_high = subst (λ (t : ℤ). t ≤ℤ pos MAX_VALUE) (sym den) (omega (arith, ints));
-  lowest = v.reduced;
-}
-
--- the field of a value in its range has no fault
-pub good_quotient : (v : Quotient) → IsCornerValue v → corner_value_fault (quotient_text v.0 v.1) ≡ None
-good_quotient v h =
-    rw (halves-quotient_text v.0 v.1, number_of-spelling v.0, number_of-spelling v.1, in_range_test (pos 0) (pos MAX_VALUE) v.0 h.num_low h.num_high, in_range_test (pos 1) (pos MAX_VALUE) v.1 h.den_low h.den_high, coprime_test (unsigned_abs v.0) (unsigned_abs v.1) h.lowest) refl
-
--- a field is that of a value in range
-pub record IsValueField (f : Field) : Type 0 where
-  pub told : Quotient
-  pub is : f ≡ quotient_text told.0 told.1
-  pub in_range : IsCornerValue told
-
-quotient_test : (a b : ℤ) → quotient_fault (between 0 MAX_VALUE) (between 1 MAX_VALUE) (Some a) (Some b) ≡ None → IsCornerValue (a, b)
-quotient_test a b h =
-    elim (cases_Bool (between 0 MAX_VALUE a && between 1 MAX_VALUE b && are_coprime (unsigned_abs a) (unsigned_abs b))) [
-      | inl good ↦
-          let both = and_parts _ _ good in
-          let ends = and_parts _ _ both.0 in
-          let num = in_range_from_test (pos 0) (pos MAX_VALUE) a ends.0 in
-          let den = in_range_from_test (pos 1) (pos MAX_VALUE) b ends.1 in
-          let above : pos 0 <ℤ b = omega (arith, ints, den.low_end) in
-          record {
-            num_low = num.low_end;
-            num_high = num.high_end;
-            den_low = den.low_end;
-            den_high = den.high_end;
-            lowest = coprime_from_test (unsigned_abs a) (unsigned_abs b) (size_positive b above) both.1;
-          }
-      | inr bad ↦ absurd (none-some Range (sym (let fault : Some Range ≡ None = rw bad at h in fault)))
-    ]
-
-quotient_from : (f a b : Field) (p q : Option ℤ) → f ≡ a ++ (47 ∷ b) → number_of a ≡ p → number_of b ≡ q → quotient_fault (between 0 MAX_VALUE) (between 1 MAX_VALUE) p q ≡ None → IsValueField f
-quotient_from f a b None q e m n h = absurd (none-some Form (sym h))
-quotient_from f a b (Some x) None e m n h = absurd (none-some Form (sym h))
-quotient_from f a b (Some x) (Some y) e m n h = record {
-  told = (x, y);
-  is = e ∙ (λ i. number_of_is a x m i ++ (47 ∷ number_of_is b y n i));
-  in_range = quotient_test x y h;
-}
-
-value_from : (f : Field) (hs : List Field) → halves f ≡ hs → fraction_fault (between 0 MAX_VALUE) (between 1 MAX_VALUE) hs ≡ None → IsValueField f
-value_from f [] e h = absurd (none-some Form (sym h))
-value_from f (a ∷ []) e h = absurd (none-some Form (sym h))
-value_from f (a ∷ b ∷ []) e h = quotient_from f a b (number_of a) (number_of b) (sym (join_with_byte-slice_split 47 f) ∙ ap (join_with_byte 47) e) refl refl h
-value_from f (a ∷ b ∷ c ∷ more) e h = absurd (none-some Form (sym h))
+use Rattle.sc_fan.specs.Corners.{corner_line, is_direction, or_range, corner_fault, corner_value_fault, corner_fields_fault, corner_row, corner_in, IsCornerInRange}
 
 -- ---- the direction
 
@@ -125,7 +60,7 @@ good_corner : (c : PlaneCorner) → IsCornerInRange c → corner_row (corner_lin
 good_corner c h =
     let direction : is_direction c.direction.s c.direction.t ≡ true = direction_test c.direction.s c.direction.t (record { s_low = h.s_low; s_high = h.s_high; t_low = h.t_low; t_high = h.t_high; somewhere = h.somewhere }) in
     named_is (codes "corner") corner_fields_fault (corner_line c) _ (fields-corner_line c)
-    ∙ rw (number_of-spelling c.direction.s, number_of-spelling c.direction.t, direction) (good_quotient c.value h.value)
+    ∙ rw (number_of-spelling c.direction.s, number_of-spelling c.direction.t, direction) (good_fraction MAX_VALUE c.value h.value)
 
 corner_in-corner_line : (c : PlaneCorner) → corner_in (corner_line c) ≡ c
 corner_in-corner_line c = rw (fields-corner_line c, halves-quotient_text c.value.0 c.value.1, number_of-spelling c.direction.s, number_of-spelling c.direction.t, number_of-spelling c.value.0, number_of-spelling c.value.1) refl
@@ -140,7 +75,7 @@ corner_from line f g v (Some s) None e m n h = absurd (none-some Form (sym h))
 corner_from line f g v (Some s) (Some t) e m n h =
     elim (cases_Bool (is_direction s t)) [
       | inl inside ↦
-          let value = value_from v (halves v) refl (let good : corner_value_fault v ≡ None = rw inside at h in good) in
+          let value = fraction_from MAX_VALUE v (let good : corner_value_fault v ≡ None = rw inside at h in good) in
           let direction = direction_from_test s t inside in
           record {
             told = record { direction = record { s = s; t = t }; value = value.told };

@@ -1,15 +1,14 @@
 -- The line of a corner.
 use Rattle.std.specs.Prelude.{ℕ, ◌+◌, ◌<◌, nat_lt, Bool, ◌&&◌, List, [], ◌∷◌, get_or, Option, Some, None, if◌then◌else◌, ℤ, pos, neg_ℤ, ◌≤ℤ◌, codes, unsigned_abs}
 use Rattle.std.specs.Option.{unwrap_or}
-use Rattle.std.specs.Int.{IsGcd}
 use Rattle.sc_whole.specs.Spelling.{spelling}
 use Rattle.sc_fraction.specs.Quotient.{quotient_text}
 use Rattle.sc_line.specs.declared.fault.Kind.{Kind}
 use Rattle.sc_line.specs.declared.fault.Kind.TheVariants.{Form, Range}
 use Rattle.sc_line.specs.Lines.{Line, Field, spaced, fields, number_of}
-use Rattle.sc_line.specs.Faults.{from_to, between, named_fault}
+use Rattle.sc_line.specs.Faults.{from_to, named_fault}
 use Rattle.sc_line.specs.Forms.{LineKind}
-use Rattle.sc_text.specs.ValueLines.{Quotient, quotient_of, halves, fraction_fault}
+use Rattle.sc_text.specs.ValueLines.{Quotient, quotient_of, halves, fraction_up_to_fault, IsFractionUpTo}
 use Rattle.sc_fan.specs.declared.limits.TheConstants.{MAX_DIRECTION, MAX_VALUE}
 use Rattle.sc_cone.specs.Fans.{Corner as PlaneCorner}
 use Rattle.sc_fan.specs.declared.corner.Corner.{Corner}
@@ -39,7 +38,7 @@ corner_fault None t fault = Some Form
 
 -- the fault of a field that is due to be the value of a corner
 abbrev pub corner_value_fault : Field → Option Kind
-corner_value_fault f = fraction_fault (between 0 MAX_VALUE) (between 1 MAX_VALUE) (halves f)
+corner_value_fault f = fraction_up_to_fault MAX_VALUE f
 
 abbrev pub corner_fields_fault : List Field → Option Kind
 corner_fields_fault [] = Some Form
@@ -62,12 +61,8 @@ abbrev pub corner_in : Line → PlaneCorner
 corner_in line = record { direction = record { s = whole_in 1 line; t = whole_in 2 line }; value = (half_in 0 line, half_in 1 line) }
 
 -- what the value of a corner may be
-pub record IsCornerValue (v : Quotient) : Type 0 where
-  pub num_low : pos 0 ≤ℤ v.0
-  pub num_high : v.0 ≤ℤ pos MAX_VALUE
-  pub den_low : pos 1 ≤ℤ v.1
-  pub den_high : v.1 ≤ℤ pos MAX_VALUE
-  pub lowest : IsGcd (unsigned_abs v.0) (unsigned_abs v.1) 1
+abbrev pub IsCornerValue : Quotient → Type 0
+IsCornerValue v = IsFractionUpTo MAX_VALUE v
 
 -- what a corner may be
 pub record IsCornerInRange (c : PlaneCorner) : Type 0 where

@@ -1,53 +1,18 @@
 //! The line of a corner.
 
-ghost use Rattle.std.specs.Prelude.{◌≡◌, ◌≤◌, ◌++◌, ℤ, pos, true, false, Some, IfOk, IfErr, OnOk, OnErr};
+ghost use Rattle.std.specs.Prelude.{◌≡◌, ◌++◌, ℤ, true, false, Some, IfOk, IfErr, OnOk, OnErr};
 ghost use Rattle.sc_line.specs.declared.fault.Kind.TheVariants as kinds;
 ghost use Rattle.sc_line.specs.Lines.{ended, IsNarrowed};
 ghost use Rattle.sc_line.specs.Printing.{AppendsPart};
-ghost use Rattle.sc_fraction.specs.Frac.{numerator, denominator, frac_text};
-ghost use Rattle.sc_text.specs.ValueLines.{are_coprime, quotient_of};
 ghost use Rattle.sc_fan.specs.Corners as lines;
-ghost use Rattle.sc_fan.specs.Corners.{corner_said, is_direction, corner_value_fault, IsCornerValue, IsCornerInRange};
+ghost use Rattle.sc_fan.specs.Corners.{corner_said, is_direction, IsCornerInRange};
 
 use crate::corner::Corner;
 use crate::limits::{MAX_DIRECTION, MAX_VALUE};
 use sc_cone::Direction;
-use sc_fraction::Frac;
-use sc_line::{Fields, Kind, cut, in_range, number_of, within};
-use sc_text::{Field, print_line};
+use sc_line::{Fields, Kind, within};
+use sc_text::{Field, fraction_of, print_line};
 use std::alloc::AllocError;
-
-// num/den, where it is in lowest terms.
-fn lowest(num: u32, den: u32) -> Result<Frac, Kind>
-    requires { 1 ≤ den }
-    ensures ok { IfOk result (λ v. (numerator v ≡ pos num) × (denominator v ≡ pos den)) }
-    ensures err { IfErr result (λ kind. (kind ≡ kinds.Range) × (are_coprime num den ≡ false)) }
-{
-    let den = i128::from(den);
-    let Ok(value) = Frac::new(i128::from(num), den) else {
-        return Err(Kind::Range);
-    };
-    if value.den() == den {
-        Ok(value)
-    } else {
-        Err(Kind::Range)
-    }
-}
-
-// The value of a field `NUM/DEN`.
-fn value_of(field: &[u8]) -> Result<Frac, Kind>
-    ensures ok { IfOk result (λ v. (field.now ≡ frac_text v) × IsCornerValue (quotient_of v)) }
-    ensures err { IfErr result (λ kind. corner_value_fault field.now ≡ Some kind) }
-{
-    let Some((num, den)) = cut(field, b'/') else {
-        return Err(Kind::Form);
-    };
-    let num = number_of(num)?;
-    let den = number_of(den)?;
-    let num = in_range(num, 0, MAX_VALUE)?;
-    let den = in_range(den, 1, MAX_VALUE)?;
-    lowest(num, den)
-}
 
 // The direction of two numbers.
 fn direction_of(s: Option<i128>, t: Option<i128>) -> Result<Direction, Kind>
@@ -78,7 +43,7 @@ pub fn corner_line(line: &[u8]) -> Result<Corner, Kind>
         return Err(Kind::Form);
     };
     fields.end()?;
-    let value = value_of(field)?;
+    let value = fraction_of(field, MAX_VALUE)?;
     let direction = direction_of(s, t)?;
     Ok(Corner { direction, value })
 }

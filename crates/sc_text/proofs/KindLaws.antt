@@ -1,16 +1,13 @@
 -- The kinds of lines: which lines of each kind have no fault, and what they tell.
-use Rattle.std.proofs.Common.{◌≡◌, ◌≢◌, ℕ, ◌≤◌, true, ◌&&◌, eqb, leb, List, [], ◌∷◌, map, length, Option, Some, None, codes, ℤ, pos, neg_ℤ, ◌≤ℤ◌, ◌<ℤ◌, ◌++◌, unsigned_abs, refl, sym, ap, subst, ◌∙◌, arith, inl, inr}
-use Rattle.std.specs.List.{list_all, join_with_byte}
+use Rattle.std.proofs.Common.{◌≡◌, ℕ, ◌≤◌, true, ◌&&◌, eqb, leb, List, [], ◌∷◌, map, length, Option, Some, None, codes, ℤ, pos, neg_ℤ, ◌≤ℤ◌, refl, sym, ap, ◌∙◌, arith, inl, inr}
+use Rattle.std.specs.List.{list_all}
 use Rattle.std.proofs.lemmas.Bool.{cases_Bool, and_parts, eqb-true, eq-eqb, leb-true}
 use Rattle.std.proofs.lemmas.List.{length-map}
-use Rattle.std.proofs.lemmas.Int.{ints}
-use Rattle.std.proofs.lemmas.List.Splits.{slice_split_at, slice_split_none, join_with_byte-slice_split}
 use Rattle.std.proofs.lemmas.Option.{none-some}
 use Rattle.sc_theory.specs.declared.Side.{Side}
 use Rattle.sc_theory.specs.Words.{Word}
 use Rattle.sc_whole.specs.Spelling.{spelling}
 use Rattle.sc_fraction.specs.Quotient.{quotient_text}
-use Rattle.sc_fraction.proofs.Arithmetic.{size_positive}
 use Rattle.sc_line.specs.declared.fault.Kind.{Kind}
 use Rattle.sc_line.specs.declared.fault.Kind.TheVariants.{Form, Range, NotReduced}
 use Rattle.sc_chain.specs.Spelling.{word_of}
@@ -21,11 +18,11 @@ use Rattle.sc_line.specs.Formats.{IsLineKind}
 use Rattle.sc_text.specs.Words.{word_line, spelled, is_reduced, IsWordInRange, FitsIn, word_fault, weighted_word_fault, word_fields_fault, word_row, word_in}
 use Rattle.sc_text.specs.Sides.{side_line, IsSideInRange, side_row, side_in}
 use Rattle.sc_text.specs.PriceLines.{of_size, number_in, known_fault, scale_row, scale_in, scale_line, IsScaleInRange, base_row, base_in, base_line, IsPriceInRange, pair_row, pair_price_in, pair_line}
-use Rattle.sc_text.specs.ValueLines.{Quotient, halves, are_coprime, quotient_fault, fraction_fault, value_fields_fault, value_row, value_in, value_line, IsValueInRange}
+use Rattle.sc_text.specs.ValueLines.{Quotient, value_fields_fault, value_row, value_in, value_line, IsValueInRange}
 use Rattle.sc_text.specs.TableLines.{Entry, entry_field, is_entry, is_entry_in_range, entries_fault, from_row, entries_in, from_line, IsRowInRange}
-use Rattle.sc_line.proofs.LineLaws.{lacking, lacks-append, lacks-spelling_but, number_of_is, fields-spaced, lacks-spelling, number_of-spelling, same_bytes, named_is, line_from_fields, IsFromTo, in_range_test, in_range_from_test}
+use Rattle.sc_line.proofs.LineLaws.{lacks-append, number_of_is, fields-spaced, lacks-spelling, number_of-spelling, same_bytes, named_is, line_from_fields, IsFromTo, in_range_test, in_range_from_test}
 use Rattle.sc_line.proofs.NumberLaws.{IsLineOf, kind_from, between-natural, natural_from, InRanges, named_from, named_inverse, numbers_inverse}
-use Rattle.sc_text.proofs.CoprimeLaws.{coprime_test, coprime_from_test}
+use Rattle.sc_text.proofs.ValueLaws.{halves-quotient_text, good_fraction, fraction_from}
 use Rattle.sc_text.proofs.WordLaws.{lacks-spelled, word_again, word_fault_none, nonempty_word, spelled_back, reduced_from}
 use Rattle.sc_text.proofs.EntryLaws.{entry_fields_lack, fields_are_entries, entries_of_fields, entries_in_range, entries_from_tests}
 
@@ -293,12 +290,6 @@ from_kind count s = kind_from (from_row count s) entries_in (from_line s) (IsRow
 
 -- ---- a value
 
--- what stands round the slash of a quotient are the spellings of its two numbers
-pub halves-quotient_text : (a b : ℤ) → halves (quotient_text a b) ≡ spelling a ∷ spelling b ∷ []
-halves-quotient_text a b =
-    slice_split_at (λ x. eqb x 47) (spelling a) 47 (spelling b) (lacking 47 (spelling a) (lacks-spelling_but 47 a (omega arith) (λ e. omega arith))) refl
-    ∙ ap (λ (rest : List Field). spelling a ∷ rest) (slice_split_none (λ x. eqb x 47) (spelling b) (lacking 47 (spelling b) (lacks-spelling_but 47 b (omega arith) (λ e. omega arith))))
-
 -- what stands between the spaces of the line of a value
 pub fields-value_line : (v : Quotient) → fields (value_line v) ≡ codes "value" ∷ quotient_text v.0 v.1 ∷ []
 fields-value_line v =
@@ -308,55 +299,15 @@ fields-value_line v =
 good_value : (v : Quotient) → IsValueInRange v → value_row (value_line v) ≡ None
 good_value v h =
     named_is (codes "value") value_fields_fault (value_line v) _ (fields-value_line v)
-    ∙ rw (halves-quotient_text v.0 v.1, number_of-spelling v.0, number_of-spelling v.1, in_range_test (pos 0) (pos MAX_VALUE) v.0 h.num_low h.num_high, in_range_test (pos 1) (pos MAX_VALUE) v.1 h.den_low h.den_high, coprime_test (unsigned_abs v.0) (unsigned_abs v.1) h.lowest) refl
+    ∙ good_fraction MAX_VALUE v h
 
 value_in-value_line : (v : Quotient) → value_in (value_line v) ≡ v
 value_in-value_line v = rw (fields-value_line v, halves-quotient_text v.0 v.1, number_of-spelling v.0, number_of-spelling v.1) refl
 
--- a field is that of a fraction in range
-pub record IsFraction (f : Field) : Type 0 where
-  pub told : Quotient
-  pub is : f ≡ quotient_text told.0 told.1
-  pub in_range : IsValueInRange told
-
-quotient_test : (a b : ℤ) → quotient_fault (between 0 MAX_VALUE) (between 1 MAX_VALUE) (Some a) (Some b) ≡ None → IsValueInRange (a, b)
-quotient_test a b h =
-    elim (cases_Bool (between 0 MAX_VALUE a && between 1 MAX_VALUE b && are_coprime (unsigned_abs a) (unsigned_abs b))) [
-      | inl good ↦
-          let both = and_parts _ _ good in
-          let ends = and_parts _ _ both.0 in
-          let num = in_range_from_test (pos 0) (pos MAX_VALUE) a ends.0 in
-          let den = in_range_from_test (pos 1) (pos MAX_VALUE) b ends.1 in
-          let above : pos 0 <ℤ b = omega (arith, ints, den.low_end) in
-          record {
-            num_low = num.low_end;
-            num_high = num.high_end;
-            den_low = den.low_end;
-            den_high = den.high_end;
-            lowest = coprime_from_test (unsigned_abs a) (unsigned_abs b) (size_positive b above) both.1;
-          }
-      | inr bad ↦ absurd (none-some Range (sym (let fault : Some Range ≡ None = rw bad at h in fault)))
-    ]
-
-quotient_from : (f a b : Field) (p q : Option ℤ) → f ≡ a ++ (47 ∷ b) → number_of a ≡ p → number_of b ≡ q → quotient_fault (between 0 MAX_VALUE) (between 1 MAX_VALUE) p q ≡ None → IsFraction f
-quotient_from f a b None q e m n h = absurd (none-some Form (sym h))
-quotient_from f a b (Some x) None e m n h = absurd (none-some Form (sym h))
-quotient_from f a b (Some x) (Some y) e m n h = record {
-  told = (x, y);
-  is = e ∙ (λ i. number_of_is a x m i ++ (47 ∷ number_of_is b y n i));
-  in_range = quotient_test x y h;
-}
-
-fraction_from : (f : Field) (hs : List Field) → halves f ≡ hs → fraction_fault (between 0 MAX_VALUE) (between 1 MAX_VALUE) hs ≡ None → IsFraction f
-fraction_from f [] e h = absurd (none-some Form (sym h))
-fraction_from f (a ∷ []) e h = absurd (none-some Form (sym h))
-fraction_from f (a ∷ b ∷ []) e h = quotient_from f a b (number_of a) (number_of b) (sym (join_with_byte-slice_split 47 f) ∙ ap (join_with_byte 47) e) refl refl h
-fraction_from f (a ∷ b ∷ c ∷ more) e h = absurd (none-some Form (sym h))
-
 value_from : (line : Line) (fs : List Field) → fields line ≡ codes "value" ∷ fs → value_fields_fault fs ≡ None → IsLineOf value_line IsValueInRange line
 value_from line [] e h = absurd (none-some Form (sym h))
 value_from line (f ∷ []) e h =
-    let v = fraction_from f (halves f) refl h in
+    let v = fraction_from MAX_VALUE f h in
     record { told = v.told; is = line_from_fields line _ (e ∙ ap (λ (g : Field). codes "value" ∷ g ∷ []) v.is); in_range = v.in_range }
 value_from line (f ∷ g ∷ fs) e h = absurd (none-some Form (sym h))
 

@@ -46,9 +46,13 @@ fraction_fault nums dens (a ∷ []) = Some Form
 fraction_fault nums dens (a ∷ b ∷ []) = quotient_fault nums dens (number_of a) (number_of b)
 fraction_fault nums dens (a ∷ b ∷ c ∷ more) = Some Form
 
+-- the fault of a field that is due to be a fraction of numbers up to a greatest one
+abbrev pub fraction_up_to_fault : ℕ → Field → Option Kind
+fraction_up_to_fault most f = fraction_fault (between 0 most) (between 1 most) (halves f)
+
 abbrev pub value_fields_fault : List Field → Option Kind
 value_fields_fault [] = Some Form
-value_fields_fault (f ∷ []) = fraction_fault (between 0 MAX_VALUE) (between 1 MAX_VALUE) (halves f)
+value_fields_fault (f ∷ []) = fraction_up_to_fault MAX_VALUE f
 value_fields_fault (f ∷ g ∷ fs) = Some Form
 
 abbrev pub value_row : Line → Option Kind
@@ -61,13 +65,17 @@ half_in i line = unwrap_or (number_of (get_or (halves (get_or (fields line) 1 []
 abbrev pub value_in : Line → Quotient
 value_in line = (half_in 0 line, half_in 1 line)
 
--- what a value may be
-pub record IsValueInRange (v : Quotient) : Type 0 where
+-- a fraction in lowest terms, of a numerator from 0 and a denominator from 1 up to a greatest number
+pub record IsFractionUpTo (most : ℕ) (v : Quotient) : Type 0 where
   pub num_low : pos 0 ≤ℤ v.0
-  pub num_high : v.0 ≤ℤ pos MAX_VALUE
+  pub num_high : v.0 ≤ℤ pos most
   pub den_low : pos 1 ≤ℤ v.1
-  pub den_high : v.1 ≤ℤ pos MAX_VALUE
+  pub den_high : v.1 ≤ℤ pos most
   pub lowest : IsGcd (unsigned_abs v.0) (unsigned_abs v.1) 1
+
+-- what a value may be
+abbrev pub IsValueInRange : Quotient → Type 0
+IsValueInRange v = IsFractionUpTo MAX_VALUE v
 
 abbrev pub a_value : LineKind Quotient
 a_value = record { line = value_line; fault = value_row; value = value_in }

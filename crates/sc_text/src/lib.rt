@@ -30,5 +30,5 @@ pub use sc_line::{
 pub use sides::{SideLines, side_line};
 pub use surface::{Surface, read_surface_text};
 pub use tables::{from_line, print_from_line};
-pub use values::{print_value_line, value_line};
+pub use values::{fraction_of, print_value_line, value_line};
 pub use words::{WordLines, word_line};

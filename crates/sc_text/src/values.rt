@@ -3,11 +3,9 @@
 ghost use Rattle.std.specs.Prelude.{◌≡◌, ◌≤◌, ◌++◌, false, pos, Some, IfOk, IfErr, OnOk, OnErr};
 ghost use Rattle.sc_line.specs.declared.fault.Kind.TheVariants as kinds;
 ghost use Rattle.sc_fraction.specs.Frac.{numerator, denominator, frac_text};
-ghost use Rattle.sc_text.specs.declared.limits.TheConstants.{MAX_VALUE};
-ghost use Rattle.sc_line.specs.Faults.{between};
 ghost use Rattle.sc_line.specs.Lines.{ended};
 ghost use Rattle.sc_line.specs.Printing.{AppendsPart};
-ghost use Rattle.sc_text.specs.ValueLines.{are_coprime, halves, fraction_fault, quotient_of, IsValueInRange};
+ghost use Rattle.sc_text.specs.ValueLines.{are_coprime, fraction_up_to_fault, quotient_of, IsFractionUpTo, IsValueInRange};
 ghost use Rattle.sc_text.specs.ValueLines as lines;
 
 use crate::limits::MAX_VALUE;
@@ -33,18 +31,18 @@ fn lowest(num: u32, den: u32) -> Result<Frac, Kind>
     }
 }
 
-// The fraction of a field `NUM/DEN`.
-fn fraction(field: &[u8]) -> Result<Frac, Kind>
-    ensures ok { IfOk result (λ v. (field.now ≡ frac_text v) × IsValueInRange (quotient_of v)) }
-    ensures err { IfErr result (λ kind. fraction_fault (between 0 MAX_VALUE) (between 1 MAX_VALUE) (halves field.now) ≡ Some kind) }
+/// The fraction of a field `NUM/DEN` in lowest terms, the numerator from 0 and the denominator from 1 to `most`.
+pub fn fraction_of(field: &[u8], most: u32) -> Result<Frac, Kind>
+    ensures ok { IfOk result (λ v. (field.now ≡ frac_text v) × IsFractionUpTo most (quotient_of v)) }
+    ensures err { IfErr result (λ kind. fraction_up_to_fault most field.now ≡ Some kind) }
 {
     let Some((num, den)) = cut(field, b'/') else {
         return Err(Kind::Form);
     };
     let num = number_of(num)?;
     let den = number_of(den)?;
-    let num = in_range(num, 0, MAX_VALUE)?;
-    let den = in_range(den, 1, MAX_VALUE)?;
+    let num = in_range(num, 0, most)?;
+    let den = in_range(den, 1, most)?;
     lowest(num, den)
 }
 
@@ -59,7 +57,7 @@ pub fn value_line(line: &[u8]) -> Result<Frac, Kind>
         return Err(Kind::Form);
     };
     fields.end()?;
-    fraction(field)
+    fraction_of(field, MAX_VALUE)
 }
 
 /// Appends the line of a fraction.

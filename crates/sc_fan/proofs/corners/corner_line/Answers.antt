@@ -4,8 +4,10 @@ use Rattle.sc_whole.specs.Spelling.{spelling}
 use Rattle.sc_text.specs.ValueLines.{quotient_of}
 use Rattle.sc_line.specs.Lines.{fields}
 use Rattle.sc_line.proofs.LineLaws.{line_from_fields, narrowed_is, number_of_is}
+use Rattle.sc_text.proofs.ValueLaws.{good_fraction}
+use Rattle.sc_fan.specs.declared.limits.TheConstants.{MAX_VALUE}
 use Rattle.sc_fan.specs.Corners.{corner_value_fault}
-use Rattle.sc_fan.proofs.CornerLaws.{good_quotient, direction_from_test, direction_outside, value_bad}
+use Rattle.sc_fan.proofs.CornerLaws.{direction_from_test, direction_outside, value_bad}
 use Rattle.sc_fan.proofs.corners.corner_line.Goals as goal
 
 pub returns-in_err-value-clause-err : goal.returns-in_err-value-clause-err
@@ -25,7 +27,7 @@ returns-in_err-direction-clause-err c =
     let value = c.in_ok-value.value in
     let all : fields c.args.line.now ≡ codes "corner" ∷ s.field ∷ t.field ∷ c.in-Some.field.now ∷ [] =
     cc (c.of-fields.ensures, c.in_ok-name.ensures.ok, s.taken, t.taken, c.in-Some.ensures.some, c.in_ok-end.ensures.ok) in
-    let good : corner_value_fault c.in-Some.field.now ≡ None = ap corner_value_fault c.in_ok-value.ensures.ok.0 ∙ good_quotient (quotient_of value) c.in_ok-value.ensures.ok.1 in
+    let good : corner_value_fault c.in-Some.field.now ≡ None = ap corner_value_fault c.in_ok-value.ensures.ok.0 ∙ good_fraction MAX_VALUE (quotient_of value) c.in_ok-value.ensures.ok.1 in
     let outside = c.in_err-direction.ensures.err.1 s.value t.value s.narrowed t.narrowed in
     rw (p.1, p.2) (direction_outside c.args.line.now s.field t.field c.in-Some.field.now s.value t.value all s.spells t.spells good outside ∙ ap Some (sym c.in_err-direction.ensures.err.0))
 

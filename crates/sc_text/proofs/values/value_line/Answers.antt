@@ -13,4 +13,4 @@ returns-clause-ok c =
     let all : fields c.args.line.now ≡ codes "value" ∷ frac_text v ∷ [] =
     cc (c.of-fields.ensures, c.in_ok-name.ensures.ok, c.in-Some.ensures.some, c.in_ok-end.ensures.ok, h.0) in
     (line_from_fields c.args.line.now _ all, h.1))
-    c.fraction.ensures.ok
+    c.fraction_of.ensures.ok
