@@ -6,7 +6,7 @@ ghost use Rattle.std.specs.Prelude.{◌<◌, ◌≤◌, ◌^◌, length, IfOk, I
 ghost use Rattle.std.specs.List.{All};
 ghost use Rattle.sc_theory.specs.Chains.{positions};
 ghost use Rattle.sc_chain.specs.Faults.{AreGenerators};
-ghost use Rattle.sc_chain.specs.declared.limits.TheConstants.{GENERATORS};
+ghost use Rattle.sc_words.specs.declared.limits.TheConstants.{GENERATORS};
 ghost use Rattle.sc_tables.specs.StepPrices.{AreForChain};
 
 use sc_chain::{Chain, Pairs, Word, letters_of};

@@ -1,6 +1,6 @@
 -- To an input that a command accepts it answers a status of its own.
 use Rattle.std.proofs.Common.{ℕ, Bool, true, false, inl, inr, List, ap₂, subst, arith}
-use Rattle.sc_chain.specs.declared.lines.RawLine.{RawLine}
+use Rattle.sc_words.specs.declared.lines.RawLine.{RawLine}
 use Rattle.sc_reduce.specs.Lines.{chain_of, HasManyWords, HasManyPositions}
 use Rattle.sc_line.proofs.FaultLaws.{faultless_first}
 use Rattle.sc_certificate.specs.Certificates.{certificate_plan}

@@ -7,8 +7,8 @@ use Rattle.std.proofs.lemmas.List.Elements.{All-take, All-drop}
 use Rattle.std.proofs.lemmas.List.Sums.{sum_by-append}
 use Rattle.sc_theory.specs.Words.{Word}
 use Rattle.sc_theory.specs.Chains.{Chain, IsChain, IsBalanced, positions}
-use Rattle.sc_chain.specs.declared.lines.RawLine.{RawLine}
-use Rattle.sc_chain.specs.ChainText.{IsRawLine}
+use Rattle.sc_words.specs.declared.lines.RawLine.{RawLine}
+use Rattle.sc_words.specs.ChainText.{IsRawLine}
 use Rattle.sc_reduce.specs.Lines.{line_chain, chain_of, IsWithin, HasManyWords, HasManyPositions}
 use Rattle.sc_text.specs.Surfaces.{IsChainInRange}
 use Rattle.sc_line.specs.declared.fault.Kind.{Kind}

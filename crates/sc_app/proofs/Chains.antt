@@ -3,8 +3,8 @@ use Rattle.std.proofs.Common.{◌≡◌, ℕ, List, ℤ, IsSome, is_some, None, 
 use Rattle.std.proofs.lemmas.Bool.{cases_lt, false≢true}
 use Rattle.sc_theory.specs.Chains.{Chain}
 use Rattle.sc_line.specs.declared.fault.Kind.{Kind}
-use Rattle.sc_chain.specs.declared.lines.RawLine.{RawLine}
-use Rattle.sc_chain.specs.ChainText.{IsChainText, IsFirstMalformed, line_case, line_at, line_kind}
+use Rattle.sc_words.specs.declared.lines.RawLine.{RawLine}
+use Rattle.sc_words.specs.ChainText.{IsChainText, IsFirstMalformed, line_case, line_at, line_kind}
 use Rattle.sc_chain.specs.Balance.{IsFirstUnbalanced}
 use Rattle.sc_app.specs.Scl.{infinite}
 use Rattle.sc_app.specs.declared.status.Status.TheVariants.{Malformed}

@@ -8,7 +8,7 @@ use Rattle.sc_algebra.specs.Sums.{count_below}
 use Rattle.sc_algebra.specs.Permutations.{IsPermutation, is_least_for}
 use Rattle.sc_algebra.proofs.Sums.{count-all, count-append, count-none, count-le}
 use Rattle.sc_algebra.proofs.Cycles.{iterate-add, iterate-last, least_from_all}
-use Rattle.sc_chain.specs.Spelling.{letter_byte}
+use Rattle.sc_words.specs.Spelling.{letter_byte}
 use Rattle.sc_theory.specs.Chains.{Chain, letter}
 use Rattle.sc_theory.specs.Fatgraphs.{Sides, IsFatgraph, label, mate, turn, vertices}
 use Rattle.sc_fatgraph.specs.inside.Orbits.{IsRibbon}

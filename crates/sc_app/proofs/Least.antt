@@ -9,8 +9,8 @@ use Rattle.sc_theory.proofs.Leastness as leastness
 use Rattle.sc_certificate.specs.Certificates.{Certificate, IsCertificateInRange}
 use Rattle.sc_prices.specs.Conditions.{AllHold}
 use Rattle.sc_solve.specs.Solutions.{certificate_of}
-use Rattle.sc_chain.specs.declared.lines.RawLine.{RawLine}
-use Rattle.sc_chain.specs.ChainText.{IsChainText}
+use Rattle.sc_words.specs.declared.lines.RawLine.{RawLine}
+use Rattle.sc_words.specs.ChainText.{IsChainText}
 use Rattle.sc_reduce.specs.Lines.{chain_of, IsWithin}
 use Rattle.sc_reduce.proofs.LineLaws.{chain_total-chain_of}
 use Rattle.sc_outside.specs.Told.{Took}

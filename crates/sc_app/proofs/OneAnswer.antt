@@ -3,8 +3,8 @@ use Rattle.std.proofs.Common.{◌≡◌, ℕ, Bool, true, false, ◌⊎◌, inl,
 use Rattle.sc_theory.specs.Chains.{Chain}
 use Rattle.sc_theory.specs.Fatgraphs.{Sides, IsFatgraph}
 use Rattle.sc_line.specs.declared.fault.Kind.{Kind}
-use Rattle.sc_chain.specs.declared.lines.RawLine.{RawLine}
-use Rattle.sc_chain.specs.ChainText.{IsChainText, IsFirstMalformed}
+use Rattle.sc_words.specs.declared.lines.RawLine.{RawLine}
+use Rattle.sc_words.specs.ChainText.{IsChainText, IsFirstMalformed}
 use Rattle.sc_reduce.specs.Lines.{chain_of, IsWithin, HasManyWords, HasManyPositions}
 use Rattle.sc_line.specs.Faults.{IsFirstFault}
 use Rattle.sc_line.proofs.FaultLaws.{first_fault-unique, faultless_first}

@@ -9,7 +9,7 @@ use Rattle.sc_theory.specs.Fatgraphs.{Sides, IsFatgraph, cost}
 use Rattle.sc_fraction.specs.declared.frac.Frac.{Frac}
 use Rattle.sc_fraction.specs.Frac.{IsQuotient, numerator, denominator}
 use Rattle.sc_fraction.proofs.SameValues.{same_frac}
-use Rattle.sc_chain.specs.declared.lines.RawLine.{RawLine}
+use Rattle.sc_words.specs.declared.lines.RawLine.{RawLine}
 use Rattle.sc_reduce.specs.Lines.{chain_of}
 use Rattle.sc_certificate.specs.Certificates.{Certificate}
 use Rattle.sc_prices.specs.declared.verdict.Condition.TheVariants.{Flaw}

@@ -13,8 +13,8 @@ use Rattle.sc_solve.specs.declared.solution.Solution.{Solution}
 use Rattle.sc_solve.specs.declared.solution.SolveFault.{SolveFault}
 use Rattle.sc_solve.specs.declared.solution.SolveFault.TheVariants as faults
 use Rattle.sc_solve.specs.Solutions.{IsSolution, IsStopped, certificate_of}
-use Rattle.sc_chain.specs.declared.lines.RawLine.{RawLine}
-use Rattle.sc_chain.specs.ChainText.{IsChainText}
+use Rattle.sc_words.specs.declared.lines.RawLine.{RawLine}
+use Rattle.sc_words.specs.ChainText.{IsChainText}
 use Rattle.sc_reduce.specs.Lines.{chain_of, IsWithin}
 use Rattle.sc_app.specs.Notes.{line}
 use Rattle.sc_app.specs.Said.{Says, Refuses, RespondsBySides}

@@ -8,14 +8,15 @@ use Rattle.sc_theory.specs.Fatgraphs.{Sides, IsFatgraph, cost}
 use Rattle.sc_theory.specs.Prices.{Vouch}
 use Rattle.sc_theory.proofs.Reduction.{cases_option}
 use Rattle.sc_line.specs.declared.fault.Kind.{Kind}
-use Rattle.sc_chain.specs.declared.lines.RawLine.{RawLine}
-use Rattle.sc_chain.specs.declared.limits.TheConstants.{GENERATORS, MAX_WORDS, MAX_POSITIONS}
+use Rattle.sc_words.specs.declared.lines.RawLine.{RawLine}
+use Rattle.sc_words.specs.declared.limits.TheConstants.{GENERATORS}
+use Rattle.sc_chain.specs.declared.limits.TheConstants.{MAX_WORDS, MAX_POSITIONS}
 use Rattle.std.specs.List.{All}
-use Rattle.sc_chain.specs.ChainText.{IsChainText, IsRawLine, line_case, line_at, line_kind, text_lines, raw_lines}
+use Rattle.sc_words.specs.ChainText.{IsChainText, IsRawLine, line_case, line_at, line_kind, text_lines, raw_lines}
 use Rattle.sc_chain.specs.Balance.{IsFirstUnbalanced}
 use Rattle.sc_chain.specs.Faults.{AreGenerators}
 use Rattle.sc_chain.proofs.Balanced.{chain_total_beyond}
-use Rattle.sc_chain.proofs.ReadingLaws.{raw_lines_in_range}
+use Rattle.sc_words.proofs.ReadingLaws.{raw_lines_in_range}
 use Rattle.sc_reduce.specs.Lines.{chain_of, IsWithin}
 use Rattle.sc_reduce.proofs.LineLaws.{generators_of_chain}
 use Rattle.sc_line.specs.Faults.{Plan, IsFaultless, fault_at}

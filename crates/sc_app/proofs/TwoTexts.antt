@@ -7,8 +7,8 @@ use Rattle.std.proofs.lemmas.List.Sums.{fails_before_first, passes_at_first}
 use Rattle.sc_theory.proofs.Reduction.{cases_option}
 use Rattle.sc_line.specs.declared.fault.Kind.{Kind}
 use Rattle.sc_line.specs.declared.fault.Kind.TheVariants.{Separator}
-use Rattle.sc_chain.specs.declared.lines.RawLine.{RawLine}
-use Rattle.sc_chain.specs.ChainText.{text_lines, line_at, line_case, raw_lines}
+use Rattle.sc_words.specs.declared.lines.RawLine.{RawLine}
+use Rattle.sc_words.specs.ChainText.{text_lines, line_at, line_case, raw_lines}
 use Rattle.sc_two.specs.TwoTexts.{is_separator, Separates, IsTwoText, IsGoodLine, wrong_kind, IsFirstWrong}
 use Rattle.sc_two.proofs.Places.{wrong_same}
 use Rattle.sc_app.specs.declared.status.Status.TheVariants.{Malformed}

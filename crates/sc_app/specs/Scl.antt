@@ -4,10 +4,10 @@ use Rattle.sc_whole.specs.Spelling.{spelling}
 use Rattle.sc_theory.specs.Chains.{Chain, IsBalanced}
 use Rattle.sc_theory.specs.Fatgraphs.{IsFatgraph, IsLeast, cost}
 use Rattle.sc_fraction.specs.Quotient.{SameQuotient}
-use Rattle.sc_chain.specs.declared.lines.RawLine.{RawLine}
-use Rattle.sc_chain.specs.declared.limits.TheConstants.{GENERATORS}
+use Rattle.sc_words.specs.declared.lines.RawLine.{RawLine}
+use Rattle.sc_words.specs.declared.limits.TheConstants.{GENERATORS}
 use Rattle.sc_chain.specs.declared.polygon.Pivot.{Pivot}
-use Rattle.sc_chain.specs.ChainText.{IsChainText, IsFirstMalformed}
+use Rattle.sc_words.specs.ChainText.{IsChainText, IsFirstMalformed}
 use Rattle.sc_chain.specs.Balance.{IsFirstUnbalanced}
 use Rattle.sc_reduce.specs.Lines.{chain_of, IsWithin, HasManyWords, HasManyPositions, lines_total}
 use Rattle.sc_rows.specs.declared.fault.WideAt.{WideAt}

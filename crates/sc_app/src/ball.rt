@@ -3,7 +3,7 @@
 ghost use Rattle.std.specs.Prelude.{◌≡◌, ℕ, ◌≤◌, ◌+◌, ◌<◌, ◌^◌, length, map, take, drop, IfOk, IfErr, OnOk};
 ghost use Rattle.std.specs.List.{All};
 ghost use Rattle.sc_theory.specs.Chains.{IsBalanced, positions};
-ghost use Rattle.sc_chain.specs.ChainText.{IsRawLine};
+ghost use Rattle.sc_words.specs.ChainText.{IsRawLine};
 ghost use Rattle.sc_chain.specs.declared.limits.TheConstants.{MAX_WORDS, MAX_POSITIONS};
 ghost use Rattle.sc_reduce.specs.Lines.{IsWithin, IsExcess, chain_of, letters_of};
 ghost use Rattle.sc_text.specs.Surfaces.{IsChainInRange};

@@ -2,7 +2,7 @@
 
 ghost use Rattle.std.specs.Prelude.{◌≡◌, ◌<◌, ◌≤◌, map, length, pos, IfOk};
 ghost use Rattle.std.specs.List.{zip, filter_map};
-ghost use Rattle.sc_chain.specs.Spelling.{letter_of};
+ghost use Rattle.sc_words.specs.Spelling.{letter_of};
 ghost use Rattle.sc_gluing.specs.Gluing.{AreBalanced};
 ghost use Rattle.sc_assembly.specs.Multiples.{IsTimes, AreCounts};
 

@@ -4,7 +4,7 @@ ghost use Rattle.std.specs.Prelude.{◌≡◌, ◌*◌, ◌<◌, ◌≤◌, map,
 ghost use Rattle.std.specs.List.{zip, filter_map};
 ghost use Rattle.sc_theory.specs.Chains.{positions, weighted_length};
 ghost use Rattle.sc_chain.specs.Faults.{AreGenerators};
-ghost use Rattle.sc_chain.specs.Spelling.{letter_of};
+ghost use Rattle.sc_words.specs.Spelling.{letter_of};
 ghost use Rattle.sc_fatgraph.specs.declared.limits.TheConstants.{MAX_COPIES, MAX_SIDES};
 ghost use Rattle.sc_gluing.specs.Gluing.{AreBalanced};
 

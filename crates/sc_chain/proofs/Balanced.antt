@@ -11,7 +11,7 @@ use Rattle.sc_theory.specs.declared.Letter.{Letter}
 use Rattle.sc_theory.specs.Words.{Word, is_positive, is_negative, total}
 use Rattle.sc_theory.specs.Chains.{Chain, IsBalanced, no_letter, weight, word, chain_total}
 use Rattle.sc_chain.specs.Faults.{IsSmallChain}
-use Rattle.sc_chain.specs.declared.limits.TheConstants.{GENERATORS}
+use Rattle.sc_words.specs.declared.limits.TheConstants.{GENERATORS}
 use Rattle.sc_chain.proofs.OneFault.{generators_of}
 use Rattle.std.specs.Prelude.{◌*◌}
 

@@ -2,11 +2,6 @@ pub mod Firsts
 pub mod OneFault
 pub mod Entries
 pub mod Balanced
-pub mod TextLaws
-pub mod SpellingLaws
-pub mod CoefficientLaws
-pub mod DecisionLaws
-pub mod ReadingLaws
 pub mod WordLists
 pub mod PairLists
 pub mod PairLaws

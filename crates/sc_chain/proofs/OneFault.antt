@@ -1,7 +1,6 @@
 -- A list of words has at most one fault, and one without a fault is a chain within the limits.
-use Rattle.std.specs.Option.{is_some, MatchOption}
-use Rattle.std.specs.Prelude.{Bool, not, IsTrue, Option, Some, None, IsErrOf, ◌↔◌, Result, Ok, Err}
-use Rattle.std.proofs.Common.{refl, ◌≡◌, ◌≢◌, zero, suc, ℕ, ◌+◌, ◌-◌, ◌<◌, ◌≤◌, inl, inr, false, true, [], length, get_or, sym, ap, subst, ◌∙◌, arith}
+use Rattle.std.specs.Prelude.{IsErrOf, ◌↔◌, Result, Ok, Err}
+use Rattle.std.proofs.Common.{◌≡◌, ◌≢◌, zero, suc, ℕ, ◌+◌, ◌-◌, ◌<◌, ◌≤◌, inl, inr, false, true, [], length, get_or, sym, ap, subst, ◌∙◌, arith}
 use Rattle.std.proofs.lemmas.Bool.{cases_order}
 use Rattle.sc_theory.specs.Words.{Word, IsReduced}
 use Rattle.sc_theory.specs.Places.{cancels_next, IsLeastCancelling}
@@ -10,7 +9,7 @@ use Rattle.sc_theory.specs.Chains.{Chain, no_letter, word, positions, letter, wo
 use Rattle.sc_chain.specs.Faults.{IsSmallChain, AreGenerators, IsGoodWord, AreGoodBelow, HasEmptyWord, HasFlaw, IsFaultOf, IsAccepted}
 use Rattle.sc_chain.specs.declared.fault.ChainFault.{ChainFault}
 use Rattle.sc_chain.specs.declared.fault.ChainFault.TheVariants.{EmptyWord, NotReduced, ManyWords, ManyPositions, Heavy, Memory}
-use Rattle.sc_chain.specs.declared.limits.TheConstants.{GENERATORS}
+use Rattle.sc_words.specs.declared.limits.TheConstants.{GENERATORS}
 use Rattle.sc_theory.proofs.ChainLaws.{Place as Placed, place, place_inside, letter_place, first-suc}
 use Rattle.sc_chain.proofs.Firsts.{nonempty-length}
 
@@ -138,10 +137,3 @@ words-le c (suc n) h g =
 -- the letters of a chain within the limits are those of the generators
 pub generators_of : (c : Chain) → IsSmallChain c → AreGenerators c
 generators_of c s w k hw hk = rw (← letter_place c w k hk) (s.generators (first c w + k) (place_inside c w k hk))
-
--- a word is reduced where no place is found at which it isn't
-pub reduced_where_none : (v w : Word) (o : Option ℕ) (b : Bool) → v ≡ w → is_some o ≡ not b → MatchOption o (IsReduced v) (IsLeastCancelling v) → IsTrue b ↔ IsReduced w
-reduced_where_none v w None true e t m = ((λ _. subst IsReduced e m), (λ _. refl))
-reduced_where_none v w None false e t m = absurd (cc)
-reduced_where_none v w (Some k) true e t m = absurd (cc)
-reduced_where_none v w (Some k) false e t m = ((λ s. absurd (cc)), (λ r. absurd (unreduced_from_cancelling v k m (subst IsReduced (sym e) r))))

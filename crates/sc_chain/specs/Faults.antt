@@ -5,7 +5,8 @@ use Rattle.sc_theory.specs.Places.{IsLeastCancelling}
 use Rattle.sc_theory.specs.Chains.{Chain, IsChain, no_letter, word, positions, letter, weighted_length}
 use Rattle.sc_chain.specs.declared.fault.ChainFault.{ChainFault}
 use Rattle.sc_chain.specs.declared.fault.ChainFault.TheVariants.{EmptyWord, NotReduced, ManyWords, ManyPositions, Heavy, Memory}
-use Rattle.sc_chain.specs.declared.limits.TheConstants.{GENERATORS, MAX_WORDS, MAX_POSITIONS, MAX_LENGTH}
+use Rattle.sc_words.specs.declared.limits.TheConstants.{GENERATORS}
+use Rattle.sc_chain.specs.declared.limits.TheConstants.{MAX_WORDS, MAX_POSITIONS, MAX_LENGTH}
 
 -- what every chain keeps
 pub record IsSmallChain (c : Chain) : Type 0 where

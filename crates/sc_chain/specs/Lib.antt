@@ -1,9 +1,7 @@
-pub mod Spelling
 pub mod Faults
 pub mod Tables
 pub mod Kept
 pub mod Balance
-pub mod ChainText
 pub mod Pairs
 pub mod PairTable
 pub mod Polygons

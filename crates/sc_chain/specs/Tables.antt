@@ -1,6 +1,6 @@
 -- The tables that a chain keeps: an entry per position, and the first position of each word.
 use Rattle.std.specs.Prelude.{◌≡◌, ℕ, ◌<◌, List, length, get_or}
-use Rattle.sc_theory.specs.Chains.{Chain, no_letter, word, positions, first, word_of, letter, succ, prev}
+use Rattle.sc_theory.specs.Chains.{Chain, no_letter, positions, first, word_of, letter, succ, prev}
 use Rattle.sc_chain.specs.declared.chain.Place.{Place}
 
 -- what stands past the end of the table

@@ -1,3 +1,2 @@
 -- Definitions that no clause of a public function needs.
-pub mod Decision
 pub mod Tables

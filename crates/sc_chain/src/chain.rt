@@ -11,11 +11,9 @@ ghost use Rattle.sc_chain.specs.Tables.{AreTables};
 
 use crate::fault::ChainFault;
 use crate::faults::{first_fault, weigh};
-use crate::letter::is_inverse;
 use crate::limits::GENERATORS;
 use crate::totals::total_in_words;
-use crate::word::Word;
-use sc_theory::Letter;
+use sc_words::{Letter, Word, is_inverse};
 use std::alloc::{AllocError, Global};
 use std::marker::Model;
 

@@ -2,32 +2,11 @@
 
 ghost use Rattle.std.specs.Prelude.{◌≡◌, ◌<◌, ◌≤◌, ◌^◌, length, MatchOption};
 ghost use Rattle.sc_theory.specs.Chains.{positions, weighted_length};
-ghost use Rattle.sc_theory.specs.Words.{IsReduced};
-ghost use Rattle.sc_theory.specs.Places.{IsLeastCancelling};
 ghost use Rattle.sc_chain.specs.Faults.{AreGoodBelow, IsAccepted, IsFaultOf};
 
 use crate::fault::ChainFault;
-use crate::letter::is_inverse;
 use crate::limits::{MAX_LENGTH, MAX_POSITIONS, MAX_WORDS};
-use crate::word::Word;
-use sc_theory::Letter;
-
-/// The first place whose letter is the inverse of the next one round the word.
-pub fn least_cancelling(word: &[Letter]) -> Option<usize>
-    ensures { MatchOption result (IsReduced word.now) (IsLeastCancelling word.now) }
-{
-    for (place, letter) in word.iter().enumerate() {
-        let next = if place + 1 == word.len() {
-            0
-        } else {
-            place + 1
-        };
-        if is_inverse(*letter, word[next]) {
-            return Some(place);
-        }
-    }
-    None
-}
+use sc_words::{Word, least_cancelling};
 
 /// The fault of the first word that is empty or not reduced.
 fn word_fault(words: &[(u32, Word)]) -> Option<ChainFault>

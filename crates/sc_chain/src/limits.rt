@@ -2,8 +2,7 @@
 
 ghost use Rattle.std.specs.Prelude.{◌≡◌};
 
-/// The generators: their numbers, for `a` to `z`, are below this.
-pub const GENERATORS: u8 = 26;
+pub use sc_words::limits::{COEFFICIENT_DIGITS, GENERATORS, MAX_COEFFICIENT};
 
 /// The words of a chain.
 pub const MAX_WORDS: usize = 32;
@@ -14,18 +13,9 @@ pub const MAX_POSITIONS: usize = 64;
 /// The weighted length of a chain: the sum of weight times number of letters.
 pub const MAX_LENGTH: u64 = 1_048_576;
 
-/// The size of a coefficient in a chain text.
-pub const MAX_COEFFICIENT: u32 = 1000;
-
-/// The digits of a coefficient in a chain text.
-pub const COEFFICIENT_DIGITS: usize = 4;
-
 /// The numbers of the limits.
 pub fn numbers()
-    ensures generators { GENERATORS ≡ 26 }
     ensures words { MAX_WORDS ≡ 32 }
     ensures positions { MAX_POSITIONS ≡ 64 }
     ensures length { MAX_LENGTH ≡ 1048576 }
-    ensures coefficient { MAX_COEFFICIENT ≡ 1000 }
-    ensures coefficient_digits { COEFFICIENT_DIGITS ≡ 4 }
 {}

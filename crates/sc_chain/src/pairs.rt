@@ -9,8 +9,8 @@ ghost use Rattle.sc_chain.specs.Pairs.{place_in, row_in};
 ghost use Rattle.sc_chain.specs.PairTable.{ArePairsBelow, IsTableOf};
 
 use crate::chain::Chain;
-use crate::letter::is_inverse;
 use crate::sign::Sign;
+use sc_words::is_inverse;
 use std::alloc::{AllocError, Global};
 use std::marker::Model;
 

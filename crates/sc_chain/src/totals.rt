@@ -5,8 +5,7 @@ ghost use Rattle.sc_theory.specs.Words.{is_positive, is_negative, total};
 ghost use Rattle.sc_theory.specs.Chains.{chain_total, word};
 ghost use Rattle.sc_chain.specs.declared.limits.TheConstants.{MAX_POSITIONS, MAX_WORDS};
 
-use crate::word::Word;
-use sc_theory::Letter;
+use sc_words::{Letter, Word};
 
 /// How often a generator stands in a word.
 fn count_positive(word: &[Letter], generator: u8) -> usize

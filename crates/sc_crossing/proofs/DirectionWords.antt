@@ -11,7 +11,8 @@ use Rattle.sc_theory.specs.Chains.{Chain, IsChain, no_letter, word, weight, posi
 use Rattle.sc_theory.proofs.WordLaws.{inverse_word-cons}
 use Rattle.sc_chain.specs.declared.fault.ChainFault.{ChainFault}
 use Rattle.sc_chain.specs.declared.fault.ChainFault.TheVariants.{Memory}
-use Rattle.sc_chain.specs.declared.limits.TheConstants.{GENERATORS, MAX_WORDS, MAX_POSITIONS}
+use Rattle.sc_words.specs.declared.limits.TheConstants.{GENERATORS}
+use Rattle.sc_chain.specs.declared.limits.TheConstants.{MAX_WORDS, MAX_POSITIONS}
 use Rattle.sc_chain.specs.Faults.{IsSmallChain, AreGenerators, IsAccepted, IsFaultOf}
 use Rattle.sc_chain.proofs.OneFault.{accepted_faultless, generators_of}
 use Rattle.sc_cone.specs.declared.Direction.{Direction}

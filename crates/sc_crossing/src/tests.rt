@@ -4,7 +4,7 @@ ghost use Rattle.std.specs.Prelude.{◌<◌, ◌≤◌, ◌^◌, length, IfOk};
 ghost use Rattle.std.specs.List.{All};
 ghost use Rattle.sc_theory.specs.Chains.{positions, weighted_length};
 ghost use Rattle.sc_chain.specs.Faults.{AreGenerators};
-ghost use Rattle.sc_chain.specs.declared.limits.TheConstants.{GENERATORS};
+ghost use Rattle.sc_words.specs.declared.limits.TheConstants.{GENERATORS};
 
 use super::*;
 use sc_certificate::PriceList;

@@ -10,7 +10,8 @@ use Rattle.sc_theory.specs.Chains.{Chain, positions}
 use Rattle.sc_theory.specs.Prices.{pairs}
 use Rattle.sc_theory.proofs.Cyclic.{length-inverse_word, IsReduced-inverse_word}
 use Rattle.sc_theory.proofs.WordLaws.{inverse_word-cons}
-use Rattle.sc_chain.specs.declared.limits.TheConstants.{GENERATORS, MAX_WORDS, MAX_POSITIONS}
+use Rattle.sc_words.specs.declared.limits.TheConstants.{GENERATORS}
+use Rattle.sc_chain.specs.declared.limits.TheConstants.{MAX_WORDS, MAX_POSITIONS}
 use Rattle.sc_line.specs.Printing.{AppendsPart}
 use Rattle.sc_line.proofs.PrintLaws.{part_after, pieces_at, pieces_more}
 use Rattle.sc_text.specs.Words.{IsWordInRange}

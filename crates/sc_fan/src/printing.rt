@@ -1,7 +1,7 @@
 //! Prints fans.
 
 ghost use Rattle.std.specs.Prelude.{◌≡◌, ◌<◌, ◌++◌, map, length, All, OnOk, OnErr};
-ghost use Rattle.sc_chain.specs.declared.limits.TheConstants.{GENERATORS};
+ghost use Rattle.sc_words.specs.declared.limits.TheConstants.{GENERATORS};
 ghost use Rattle.sc_line.specs.Lines.{text_of};
 ghost use Rattle.sc_line.specs.Printing.{AppendsPart};
 ghost use Rattle.sc_text.specs.Words as words;

@@ -8,7 +8,7 @@ use Rattle.sc_theory.specs.Chains.{Chain, no_word, no_letter, word, first}
 use Rattle.sc_theory.specs.Fatgraphs.{Sides, no_side}
 use Rattle.sc_theory.proofs.ChainLaws.{place_inside, letter_place}
 use Rattle.sc_chain.specs.Faults.{IsSmallChain}
-use Rattle.sc_chain.specs.declared.limits.TheConstants.{GENERATORS}
+use Rattle.sc_words.specs.declared.limits.TheConstants.{GENERATORS}
 use Rattle.sc_text.specs.Words.{IsWordInRange}
 use Rattle.sc_text.specs.Sides.{IsSideInRange}
 use Rattle.sc_text.specs.Surfaces.{IsSurfaceInRange}

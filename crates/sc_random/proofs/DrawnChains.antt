@@ -11,9 +11,9 @@ use Rattle.sc_algebra.proofs.Ints.{one-mul}
 use Rattle.sc_theory.specs.Words.{Word, inverse_word, total, cyclic_reduction}
 use Rattle.sc_theory.specs.Chains.{Chain, positions, chain_total, IsBalanced, no_letter}
 use Rattle.sc_theory.proofs.WordLaws.{total-append, total-inverse_word}
-use Rattle.sc_chain.specs.declared.lines.RawLine.{RawLine}
-use Rattle.sc_chain.specs.declared.limits.TheConstants.{GENERATORS}
-use Rattle.sc_chain.specs.ChainText.{IsRawLine}
+use Rattle.sc_words.specs.declared.lines.RawLine.{RawLine}
+use Rattle.sc_words.specs.declared.limits.TheConstants.{GENERATORS}
+use Rattle.sc_words.specs.ChainText.{IsRawLine}
 use Rattle.sc_chain.specs.declared.fault.ChainFault.{ChainFault}
 use Rattle.sc_chain.specs.declared.fault.ChainFault.TheVariants.{EmptyWord, NotReduced, ManyWords, ManyPositions, Heavy, Memory}
 use Rattle.sc_reduce.specs.Lines.{signed_word, weighted_word, line_chain, chain_of, letters_of, lines_total, IsWithin, IsExcess}

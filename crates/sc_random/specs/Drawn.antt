@@ -7,7 +7,7 @@ use Rattle.rand_pcg.specs.Pcg.{pcg32, pcg32_of_seed}
 use Rattle.sc_theory.specs.declared.Letter.{Letter}
 use Rattle.sc_theory.specs.Words.{Word, is_inverse, inverse_word}
 use Rattle.sc_theory.specs.Chains.{Chain, no_letter}
-use Rattle.sc_chain.specs.declared.lines.RawLine.{RawLine}
+use Rattle.sc_words.specs.declared.lines.RawLine.{RawLine}
 use Rattle.sc_reduce.specs.Lines.{chain_of}
 
 -- the draws of a seed: the first n outputs, each of 32 bits, of the generator PCG32 that is made of the seed

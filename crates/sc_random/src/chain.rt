@@ -3,7 +3,7 @@
 ghost use Rattle.std.specs.Prelude.{◌≡◌, ◌≤◌, ◌*◌, IfOk, OnOk};
 ghost use Rattle.std.specs.List.{All};
 ghost use Rattle.sc_theory.specs.Chains.{IsBalanced, positions};
-ghost use Rattle.sc_chain.specs.ChainText.{IsRawLine};
+ghost use Rattle.sc_words.specs.ChainText.{IsRawLine};
 ghost use Rattle.sc_reduce.specs.Lines.{IsWithin};
 ghost use Rattle.sc_random.specs.Drawn as drawn;
 ghost use Rattle.sc_random.specs.declared.limits.TheConstants.{MAX_LETTERS};

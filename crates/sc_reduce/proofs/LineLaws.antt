@@ -14,10 +14,10 @@ use Rattle.sc_theory.specs.Chains.{Chain, no_word, no_letter, word, positions, w
 use Rattle.sc_theory.proofs.WordLaws.{inverse_word-cons, total-inverse_word}
 use Rattle.sc_theory.proofs.Reduction.{cases_option, FreelyDeletes-leftmost, DeletesEnds-delete_ends, cases_delete_cyclically, length-delete_cyclically, deleted_none, deleted_some, IsReduced-cyclic_reduction, total-cyclic_reduction}
 use Rattle.sc_theory.proofs.Cyclic.{IsReduced-inverse_word, length-inverse_word}
-use Rattle.sc_chain.specs.declared.lines.RawLine.{RawLine}
-use Rattle.sc_chain.specs.declared.limits.TheConstants.{GENERATORS}
+use Rattle.sc_words.specs.declared.lines.RawLine.{RawLine}
+use Rattle.sc_words.specs.declared.limits.TheConstants.{GENERATORS}
 use Rattle.sc_theory.proofs.Rounds.{unreduced_from_cancelling}
-use Rattle.sc_chain.specs.ChainText.{IsRawLine}
+use Rattle.sc_words.specs.ChainText.{IsRawLine}
 use Rattle.sc_chain.specs.Faults.{AreGenerators, AreGoodBelow, IsGoodWord, IsFaultOf}
 use Rattle.sc_chain.specs.declared.fault.ChainFault.{ChainFault}
 use Rattle.sc_chain.specs.declared.fault.ChainFault.TheVariants.{EmptyWord, NotReduced, ManyWords, ManyPositions, Heavy, Memory}

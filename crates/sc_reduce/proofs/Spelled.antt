@@ -9,11 +9,11 @@ use Rattle.std.proofs.lemmas.Int.{ints}
 use Rattle.std.proofs.lemmas.Option.{same_Some, none-some}
 use Rattle.sc_theory.specs.declared.Letter.{Letter}
 use Rattle.sc_theory.proofs.Reduction.{cases_option}
-use Rattle.sc_chain.specs.Spelling.{letter_of}
+use Rattle.sc_words.specs.Spelling.{letter_of}
 use Rattle.sc_theory.specs.Chains.{no_letter}
-use Rattle.sc_chain.specs.ChainText.{IsRawLine}
-use Rattle.sc_chain.specs.declared.lines.RawLine.{RawLine}
-use Rattle.sc_chain.specs.declared.limits.TheConstants.{MAX_COEFFICIENT}
+use Rattle.sc_words.specs.ChainText.{IsRawLine}
+use Rattle.sc_words.specs.declared.lines.RawLine.{RawLine}
+use Rattle.sc_words.specs.declared.limits.TheConstants.{MAX_COEFFICIENT}
 use Rattle.sc_reduce.specs.Lines.{letters_of}
 use Rattle.sc_reduce.proofs.LineLaws.{IsGenerator}
 

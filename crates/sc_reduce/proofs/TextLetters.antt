@@ -10,9 +10,9 @@ use Rattle.std.proofs.lemmas.List.Sums.{sum_by-append, sum_by-cons}
 use Rattle.std.proofs.lemmas.Option.{same_Some, none-some}
 use Rattle.sc_theory.specs.declared.Letter.{Letter}
 use Rattle.sc_theory.specs.Words.{Word}
-use Rattle.sc_chain.specs.declared.lines.RawLine.{RawLine}
-use Rattle.sc_chain.specs.Spelling.{letter_of, with_first, word_of}
-use Rattle.sc_chain.specs.ChainText.{Line, Field, Entry, without_empty_last, text_lines, line_fields, coefficient_of, is_comment, with_coefficient, fields_case, line_case, raw_line, raw_lines, is_line_feed, is_blank, IsChainText}
+use Rattle.sc_words.specs.declared.lines.RawLine.{RawLine}
+use Rattle.sc_words.specs.Spelling.{letter_of, with_first, word_of}
+use Rattle.sc_words.specs.ChainText.{Line, Field, Entry, without_empty_last, text_lines, line_fields, coefficient_of, is_comment, with_coefficient, fields_case, line_case, raw_line, raw_lines, is_line_feed, is_blank, IsChainText}
 use Rattle.sc_reduce.specs.Lines.{letters_of}
 
 -- the elements of several lists

@@ -3,8 +3,8 @@
 ghost use Rattle.std.specs.Prelude.{◌≡◌, ℕ, ◌<◌, ◌≤◌, ◌^◌, List, length, IfOk, IfErr, OnOk, option_to_list};
 ghost use Rattle.std.specs.List.{All};
 ghost use Rattle.sc_theory.specs.Chains.{chain_total};
-ghost use Rattle.sc_chain.specs.declared.lines.RawLine.{RawLine as Line};
-ghost use Rattle.sc_chain.specs.ChainText.{IsChainText, IsRawLine};
+ghost use Rattle.sc_words.specs.declared.lines.RawLine.{RawLine as Line};
+ghost use Rattle.sc_words.specs.ChainText.{IsChainText, IsRawLine};
 ghost use Rattle.sc_reduce.specs.Lines.{IsWithin, IsExcess, line_chain, chain_of, letters_of, lines_total};
 
 use crate::cyclic::cyclic_reduce;

@@ -2,8 +2,8 @@
 
 ghost use Rattle.std.specs.Prelude.{◌<◌, ◌≤◌, ◌^◌, IfOk, unsigned_abs};
 ghost use Rattle.std.specs.List.{All};
-ghost use Rattle.sc_chain.specs.ChainText.{IsRawLine};
-ghost use Rattle.sc_chain.specs.declared.limits.TheConstants.{GENERATORS};
+ghost use Rattle.sc_words.specs.ChainText.{IsRawLine};
+ghost use Rattle.sc_words.specs.declared.limits.TheConstants.{GENERATORS};
 ghost use Rattle.sc_reduce.specs.Lines.{letters_of as count_letters};
 
 use crate::{cyclic_reduce, free_reduce, inverse_of, reduce_lines, same_element};

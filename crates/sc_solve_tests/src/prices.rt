@@ -6,7 +6,7 @@ ghost use Rattle.sc_theory.specs.Chains.{positions};
 ghost use Rattle.sc_theory.specs.Prices.{pairs as pairs_of};
 ghost use Rattle.sc_theory.specs.Columns.{rows};
 ghost use Rattle.sc_chain.specs.Faults.{AreGenerators};
-ghost use Rattle.sc_chain.specs.declared.limits.TheConstants.{GENERATORS};
+ghost use Rattle.sc_words.specs.declared.limits.TheConstants.{GENERATORS};
 ghost use Rattle.sc_rows.specs.Standing.{ArePrices};
 
 use sc_candidates::Candidates;

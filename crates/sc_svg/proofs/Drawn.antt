@@ -4,7 +4,7 @@ use Rattle.std.specs.List.{flat_map}
 use Rattle.std.proofs.lemmas.Bool.{cases_Bool, eq-eqb}
 use Rattle.std.proofs.lemmas.List.Concat.{flat_map-append}
 use Rattle.sc_algebra.specs.Permutations.{IsPermutation, is_least_for}
-use Rattle.sc_chain.specs.Spelling.{letter_byte}
+use Rattle.sc_words.specs.Spelling.{letter_byte}
 use Rattle.sc_theory.specs.Chains.{Chain, letter}
 use Rattle.sc_theory.specs.Fatgraphs.{Sides, label, mate, turn, vertices}
 use Rattle.sc_shape.specs.Classes.{entry}

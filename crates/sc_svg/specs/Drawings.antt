@@ -4,7 +4,7 @@ use Rattle.std.specs.Fn.{iterate}
 use Rattle.std.specs.List.{flat_map}
 use Rattle.sc_algebra.specs.Permutations.{is_least_for}
 use Rattle.sc_whole.specs.Spelling.{spelling}
-use Rattle.sc_chain.specs.Spelling.{letter_byte}
+use Rattle.sc_words.specs.Spelling.{letter_byte}
 use Rattle.sc_theory.specs.Chains.{Chain, letter}
 use Rattle.sc_theory.specs.Fatgraphs.{Sides, label, mate, turn, vertices}
 use Rattle.sc_shape.specs.Shapes.{list_below}

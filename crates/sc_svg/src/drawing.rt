@@ -4,7 +4,7 @@ ghost use Rattle.std.specs.Prelude.{◌≡◌, ℕ, ◌+◌, ◌<◌, ◌≤◌,
 ghost use Rattle.std.specs.List.{flat_map};
 ghost use Rattle.sc_theory.specs.Chains.{letter, positions};
 ghost use Rattle.sc_theory.specs.Fatgraphs.{label, mate};
-ghost use Rattle.sc_chain.specs.Spelling as spelling;
+ghost use Rattle.sc_words.specs.Spelling as spelling;
 ghost use Rattle.sc_shape.specs.Classes.{entry};
 ghost use Rattle.sc_shape.specs.Shapes.{list_below};
 ghost use Rattle.sc_shape.specs.Tables.{is_own};

@@ -1,8 +1,8 @@
 //! The lines of a drawing.
 
 ghost use Rattle.std.specs.Prelude.{◌≡◌, ◌+◌, ◌-◌, ◌/◌, ◌<◌, ◌^◌, ◌++◌, ◌∷◌, [], min, max, OnOk};
-ghost use Rattle.sc_chain.specs.declared.limits.TheConstants.{GENERATORS};
-ghost use Rattle.sc_chain.specs.Spelling as spelling;
+ghost use Rattle.sc_words.specs.declared.limits.TheConstants.{GENERATORS};
+ghost use Rattle.sc_words.specs.Spelling as spelling;
 ghost use Rattle.sc_svg.specs.Drawings as drawings;
 
 use crate::pieces::{Piece, print_pieces};

@@ -6,7 +6,7 @@ ghost use Rattle.sc_theory.specs.Chains.{positions};
 ghost use Rattle.sc_theory.specs.Walks.{IsClosedWalk, IsPolygon};
 ghost use Rattle.sc_weight.specs.Levels.{zero_levels};
 ghost use Rattle.sc_chain.specs.Faults.{AreGenerators};
-ghost use Rattle.sc_chain.specs.declared.limits.TheConstants.{GENERATORS};
+ghost use Rattle.sc_words.specs.declared.limits.TheConstants.{GENERATORS};
 ghost use Rattle.sc_tables.specs.StepPrices.{AreForChain};
 ghost use Rattle.sc_tables.specs.Totals.{IsBelow};
 

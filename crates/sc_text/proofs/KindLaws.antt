@@ -10,7 +10,7 @@ use Rattle.sc_whole.specs.Spelling.{spelling}
 use Rattle.sc_fraction.specs.Quotient.{quotient_text}
 use Rattle.sc_line.specs.declared.fault.Kind.{Kind}
 use Rattle.sc_line.specs.declared.fault.Kind.TheVariants.{Form, Range, NotReduced}
-use Rattle.sc_chain.specs.Spelling.{word_of}
+use Rattle.sc_words.specs.Spelling.{word_of}
 use Rattle.sc_text.specs.declared.limits.TheConstants.{MAX_PRICE, MAX_VALUE, MAX_WEIGHT, MAX_LABEL, MAX_SIDE}
 use Rattle.sc_line.specs.Lines.{Line, Field, fields, spaced, numbers_line, number_of, lacks}
 use Rattle.sc_line.specs.Faults.{NumberRange, from_to, between, numbers_fault, numbers_line_fault, named_fault}

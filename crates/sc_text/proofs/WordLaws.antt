@@ -8,11 +8,11 @@ use Rattle.std.proofs.lemmas.Int.{ints}
 use Rattle.std.proofs.lemmas.Option.{same_Some, none-some}
 use Rattle.sc_theory.specs.declared.Letter.{Letter}
 use Rattle.sc_theory.specs.Words.{Word, IsReduced, delete_cyclically}
-use Rattle.sc_chain.specs.declared.limits.TheConstants.{GENERATORS}
+use Rattle.sc_words.specs.declared.limits.TheConstants.{GENERATORS}
 use Rattle.sc_text.specs.declared.limits.TheConstants.{MAX_WEIGHT}
 use Rattle.sc_line.specs.declared.fault.Kind.TheVariants.{Form, Range, NotReduced}
 use Rattle.sc_line.specs.Lines.{Field}
-use Rattle.sc_chain.specs.Spelling.{letter_byte, letter_of, with_first, word_of}
+use Rattle.sc_words.specs.Spelling.{letter_byte, letter_of, with_first, word_of}
 use Rattle.sc_text.specs.Words.{spelled, is_reduced, word_fault, weighted_word_fault}
 use Rattle.sc_line.specs.Faults.{between}
 use Rattle.sc_line.specs.Lines.{lacks}

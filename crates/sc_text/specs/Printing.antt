@@ -6,7 +6,7 @@ use Rattle.sc_line.specs.Lines.{Line, count_line}
 use Rattle.sc_text.specs.Sides.{side_line}
 use Rattle.sc_whole.specs.Spelling.{spelling}
 use Rattle.sc_fraction.specs.Frac.{frac_text}
-use Rattle.sc_chain.specs.declared.limits.TheConstants.{GENERATORS}
+use Rattle.sc_words.specs.declared.limits.TheConstants.{GENERATORS}
 use Rattle.sc_text.specs.declared.printing.Field.{Field}
 use Rattle.sc_text.specs.declared.printing.Field.TheVariants.{Text, Number, Letters, Fraction}
 use Rattle.sc_text.specs.Words.{spelled, word_line}

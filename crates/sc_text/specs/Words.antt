@@ -9,8 +9,8 @@ use Rattle.sc_line.specs.declared.fault.Kind.TheVariants.{Form, Range, NotReduce
 use Rattle.sc_line.specs.Lines.{Line, Field, spaced, fields, number_of, natural_in}
 use Rattle.sc_line.specs.Faults.{between, named_fault}
 use Rattle.sc_line.specs.Forms.{LineKind}
-use Rattle.sc_chain.specs.Spelling.{letter_byte, word_of}
-use Rattle.sc_chain.specs.declared.limits.TheConstants.{GENERATORS}
+use Rattle.sc_words.specs.Spelling.{letter_byte, word_of}
+use Rattle.sc_words.specs.declared.limits.TheConstants.{GENERATORS}
 use Rattle.sc_text.specs.declared.limits.TheConstants.{MAX_WEIGHT}
 
 -- the letters of a word, one behind the other

@@ -2,8 +2,8 @@
 
 ghost use Rattle.std.specs.Prelude.{◌≡◌, ◌<◌, ◌++◌, ◌∷◌, [], map, pos, codes, All, OnOk, OnErr};
 ghost use Rattle.std.specs.List.{flat_map};
-ghost use Rattle.sc_chain.specs.declared.limits.TheConstants.{GENERATORS};
-ghost use Rattle.sc_chain.specs.Spelling as spelling;
+ghost use Rattle.sc_words.specs.declared.limits.TheConstants.{GENERATORS};
+ghost use Rattle.sc_words.specs.Spelling as spelling;
 ghost use Rattle.sc_line.specs.Lines.{ended, text_of, spaced, count_line};
 ghost use Rattle.sc_line.specs.Printing.{AppendsPart};
 ghost use Rattle.sc_text.specs.Printing.{field_of, AreSpellable};

@@ -3,7 +3,7 @@
 ghost use Rattle.std.specs.Prelude.{◌≡◌, ◌↔◌, ◌≤◌, ◌-◌, ◌&&◌, not, false, ◌==◌, length, Some, is_some, IsTrue, IfOk, IfErr, codes, ℤ, pos};
 ghost use Rattle.std.specs.List.{list_all, filter_map};
 ghost use Rattle.sc_line.specs.declared.fault.Kind.TheVariants as kinds;
-ghost use Rattle.sc_chain.specs.Spelling as spelling;
+ghost use Rattle.sc_words.specs.Spelling as spelling;
 ghost use Rattle.sc_text.specs.Words as spellings;
 ghost use Rattle.sc_line.specs.Faults.{named_fault};
 ghost use Rattle.sc_text.specs.Words.{word_fields_fault, weighted_word_fault, a_word};

@@ -6,9 +6,9 @@ use Rattle.std.proofs.Math.Seq.{get_or-append_seam, take-append_seam, drop-appen
 use Rattle.std.proofs.lemmas.Bool.{cases_lt, lt-ltb}
 use Rattle.std.proofs.lemmas.List.{append-nil, length-append, length-take-le, take-append-drop, get_or_append_left, get_or-take}
 use Rattle.std.proofs.lemmas.List.Sums.{position_or_len_is, fails_before_first, passes_at_first}
-use Rattle.sc_chain.specs.ChainText.{Line, is_line_feed, text_lines}
-use Rattle.sc_chain.proofs.TextLaws.{IsAt, position_some, line_before_feed, line_without_feed}
-use Rattle.sc_chain.proofs.ReadingLaws.{lines_le}
+use Rattle.sc_words.specs.ChainText.{Line, is_line_feed, text_lines}
+use Rattle.sc_words.proofs.TextLaws.{IsAt, position_some, line_before_feed, line_without_feed}
+use Rattle.sc_words.proofs.ReadingLaws.{lines_le}
 use Rattle.sc_two.specs.TwoTexts.{is_separator}
 use Rattle.sc_two.specs.inside.Parts.{IsWhole, IsCut, HasNone, IsPart, IsFollowed}
 

@@ -6,9 +6,9 @@ use Rattle.std.proofs.Math.ListN.{drop_of_length-le}
 use Rattle.std.proofs.lemmas.List.{append-nil, map-append, length-map}
 use Rattle.std.proofs.lemmas.List.Sums.{sum_by-cons}
 use Rattle.std.proofs.lemmas.List.Elements.{All-nil, All-push, All-append}
-use Rattle.sc_chain.specs.declared.lines.RawLine.{RawLine}
-use Rattle.sc_chain.specs.ChainText.{Line, Entry, text_lines, line_case, raw_line, raw_lines, IsChainText, IsRawLine}
-use Rattle.sc_chain.proofs.ReadingLaws.{lines_le, raw_lines_in_range}
+use Rattle.sc_words.specs.declared.lines.RawLine.{RawLine}
+use Rattle.sc_words.specs.ChainText.{Line, Entry, text_lines, line_case, raw_line, raw_lines, IsChainText, IsRawLine}
+use Rattle.sc_words.proofs.ReadingLaws.{lines_le, raw_lines_in_range}
 use Rattle.sc_reduce.specs.Lines.{letters_of}
 use Rattle.sc_reduce.proofs.TextLetters.{letters_of_text}
 use Rattle.sc_two.specs.Behind.{moved}

@@ -9,8 +9,8 @@ use Rattle.sc_line.specs.declared.fault.Kind.{Kind}
 use Rattle.sc_line.specs.declared.fault.Kind.TheVariants.{Separator}
 use Rattle.sc_line.specs.declared.fault.TextFault.{TextFault}
 use Rattle.sc_line.specs.declared.fault.TextFault.TheVariants.{Malformed, Memory}
-use Rattle.sc_chain.specs.declared.lines.RawLine.{RawLine}
-use Rattle.sc_chain.specs.ChainText.{Line, text_lines, line_at, line_case, line_kind, raw_lines, IsFirstMalformed}
+use Rattle.sc_words.specs.declared.lines.RawLine.{RawLine}
+use Rattle.sc_words.specs.ChainText.{Line, text_lines, line_at, line_case, line_kind, raw_lines, IsFirstMalformed}
 use Rattle.sc_two.specs.TwoTexts.{is_separator, Separates, IsTwoText, IsGoodLine, wrong_kind, IsFirstWrong}
 use Rattle.sc_two.specs.inside.Parts.{HasNone, IsPart, IsFollowed}
 use Rattle.sc_two.specs.inside.Behind.{AreLinesBehind, IsMalformedBehind, IsFaultBehind}

@@ -7,7 +7,7 @@ use Rattle.std.proofs.Math.Seq.{drop-cons}
 use Rattle.std.proofs.lemmas.List.{take-append-drop}
 use Rattle.std.proofs.lemmas.List.Elements.{filter-append}
 use Rattle.std.proofs.lemmas.List.Splits.{slice_split-cons_yes, slice_split-cons_no}
-use Rattle.sc_chain.specs.ChainText.{Line, Field, Entry, is_blank, fields, line_fields, is_comment, fields_case, line_case}
+use Rattle.sc_words.specs.ChainText.{Line, Field, Entry, is_blank, fields, line_fields, is_comment, fields_case, line_case}
 use Rattle.sc_two.specs.TwoTexts.{is_slash, is_separator}
 
 abbrev is_some_field : Field → Bool

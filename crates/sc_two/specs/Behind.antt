@@ -1,6 +1,6 @@
 -- A chain text that stands behind other lines.
 use Rattle.std.specs.Prelude.{ℕ, ◌+◌}
-use Rattle.sc_chain.specs.declared.lines.RawLine.{RawLine}
+use Rattle.sc_words.specs.declared.lines.RawLine.{RawLine}
 
 -- a line that was read, numbered on
 abbrev pub moved : ℕ → RawLine → RawLine

@@ -2,7 +2,7 @@
 
 ghost use Rattle.std.specs.Prelude.{◌≡◌, [], position, MatchOption};
 ghost use Rattle.std.specs.Str.Lines.{strip_carriage_return};
-ghost use Rattle.sc_chain.specs.ChainText.{is_blank, is_line_feed};
+ghost use Rattle.sc_words.specs.ChainText.{is_blank, is_line_feed};
 ghost use Rattle.sc_two.specs.TwoTexts as texts;
 ghost use Rattle.sc_two.specs.inside.Parts.{IsCut};
 

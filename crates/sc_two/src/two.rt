@@ -3,7 +3,7 @@
 ghost use Rattle.std.specs.Prelude.{◌≡◌, ◌+◌, ◌<◌, ◌≤◌, ◌^◌, ◌⊎◌, ℕ, length, map, IfOk, IsErrOf, MatchResult};
 ghost use Rattle.std.specs.List.{All};
 ghost use Rattle.sc_line.specs.declared.fault.Kind.{Kind as AnyKind};
-ghost use Rattle.sc_chain.specs.ChainText.{IsRawLine};
+ghost use Rattle.sc_words.specs.ChainText.{IsRawLine};
 ghost use Rattle.sc_reduce.specs.Lines.{letters_of};
 ghost use Rattle.sc_two.specs.TwoTexts.{IsTwoText, IsFirstWrong};
 ghost use Rattle.sc_two.specs.inside.Behind.{HasRoom, AreLinesBehind, IsFaultBehind};

@@ -2,7 +2,7 @@
 use Rattle.std.specs.Prelude.{◌≡◌, ℕ, suc, pred, ◌+◌, ◌<◌, ◌==◌, if◌then◌else◌, List, length, get_or}
 use Rattle.sc_theory.specs.declared.Letter.{Letter}
 use Rattle.sc_theory.specs.Words.{Word}
-use Rattle.sc_theory.specs.Chains.{no_letter, word, letter}
+use Rattle.sc_theory.specs.Chains.{no_letter}
 use Rattle.sc_chain.specs.declared.chain.Place.{Place}
 use Rattle.sc_chain.specs.Tables.{no_place}
 

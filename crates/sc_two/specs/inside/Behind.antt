@@ -4,9 +4,9 @@ use Rattle.std.specs.List.{All}
 use Rattle.sc_line.specs.declared.fault.Kind.{Kind}
 use Rattle.sc_line.specs.declared.fault.TextFault.{TextFault}
 use Rattle.sc_line.specs.declared.fault.TextFault.TheVariants.{Malformed, Memory}
-use Rattle.sc_chain.specs.declared.lines.RawLine.{RawLine}
+use Rattle.sc_words.specs.declared.lines.RawLine.{RawLine}
 use Rattle.sc_reduce.specs.Lines.{letters_of}
-use Rattle.sc_chain.specs.ChainText.{text_lines, line_at, line_case, raw_lines, IsRawLine, IsFirstMalformed}
+use Rattle.sc_words.specs.ChainText.{text_lines, line_at, line_case, raw_lines, IsRawLine, IsFirstMalformed}
 
 abbrev pub HasRoom : ℕ → RawLine → Type 0
 HasRoom by r = r.line + by < 2 ^ 32

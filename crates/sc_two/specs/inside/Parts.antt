@@ -1,6 +1,6 @@
 -- A text cut behind its first line, and at its first line whose only field is a slash.
 use Rattle.std.specs.Prelude.{◌≡◌, ℕ, ◌+◌, ◌<◌, ◌≤◌, ◌⊎◌, true, false, List, [], ◌∷◌, ◌++◌, length, get_or}
-use Rattle.sc_chain.specs.ChainText.{Line, text_lines}
+use Rattle.sc_words.specs.ChainText.{Line, text_lines}
 use Rattle.sc_two.specs.TwoTexts.{is_separator}
 
 -- other lines may follow the text: its lines and then theirs are those of both together

@@ -1,7 +1,7 @@
 use Rattle.std.proofs.Common.{All, Err, ap, ◌∙◌, subst, sym}
 use Rattle.std.proofs.lemmas.List.Elements.{All-append}
 use Rattle.std.proofs.lemmas.Result.{IfOk-weaker}
-use Rattle.sc_chain.specs.ChainText.{IsRawLine}
+use Rattle.sc_words.specs.ChainText.{IsRawLine}
 use Rattle.sc_app.specs.Answer.{status_of, text_of}
 use Rattle.sc_app.proofs.Balls.{fault_told, lines_told}
 use Rattle.sc_app.proofs.ball.answer_ball.Goals as goal

@@ -1,6 +1,6 @@
 use Rattle.std.proofs.Common.{◌<◌, All, subst, sym}
 use Rattle.sc_theory.specs.Chains.{Chain}
-use Rattle.sc_chain.specs.declared.limits.TheConstants.{GENERATORS}
+use Rattle.sc_words.specs.declared.limits.TheConstants.{GENERATORS}
 use Rattle.sc_fatgraph.proofs.TextRanges.{spellable}
 use Rattle.sc_app.proofs.generate.summary.Goals as goal
 

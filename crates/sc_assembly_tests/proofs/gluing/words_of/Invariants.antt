@@ -2,7 +2,7 @@ use Rattle.std.proofs.Common.{◌≡◌, ◌*◌, ◌≤◌, map, take}
 use Rattle.std.specs.List.{filter_map}
 use Rattle.sc_theory.specs.Chains.{positions}
 use Rattle.sc_chain.specs.Faults.{AreGenerators}
-use Rattle.sc_chain.specs.Spelling.{letter_of}
+use Rattle.sc_words.specs.Spelling.{letter_of}
 use Rattle.sc_assembly_tests.proofs.gluing.words_of.Given as goal
 
 abbrev pub invariant-loop-text : goal.invariant-loop-text

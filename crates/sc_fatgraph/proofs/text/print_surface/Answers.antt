@@ -1,5 +1,5 @@
 use Rattle.std.proofs.Common.{◌<◌, All, subst, sym}
-use Rattle.sc_chain.specs.declared.limits.TheConstants.{GENERATORS}
+use Rattle.sc_words.specs.declared.limits.TheConstants.{GENERATORS}
 use Rattle.sc_theory.specs.Chains.{Chain}
 use Rattle.sc_fatgraph.proofs.TextRanges.{spellable, surface_in_range}
 use Rattle.sc_fatgraph.proofs.text.print_surface.Goals as goal

@@ -1,6 +1,6 @@
 use Rattle.std.proofs.Common.{◌≡◌, ◌<◌}
 use Rattle.std.specs.List.{All}
-use Rattle.sc_chain.specs.ChainText.{IsRawLine}
+use Rattle.sc_words.specs.ChainText.{IsRawLine}
 use Rattle.sc_reduce.specs.Lines.{letters_of}
 use Rattle.sc_reduce.proofs.tests.lines.Given as goal
 

@@ -1,5 +1,5 @@
 use Rattle.std.proofs.Common.{ℕ, ◌++◌, ap, ◌∙◌}
-use Rattle.sc_chain.specs.Spelling.{letter_byte}
+use Rattle.sc_words.specs.Spelling.{letter_byte}
 use Rattle.sc_theory.specs.Chains.{letter}
 use Rattle.sc_theory.specs.Fatgraphs.{label}
 use Rattle.sc_shape.specs.Classes.{entry}

@@ -1,6 +1,6 @@
 use Rattle.std.proofs.Common.{◌≡◌, ◌++◌, take}
 use Rattle.std.specs.List.{flat_map}
-use Rattle.sc_chain.specs.Spelling.{letter_byte}
+use Rattle.sc_words.specs.Spelling.{letter_byte}
 use Rattle.sc_theory.specs.Chains.{letter}
 use Rattle.sc_theory.specs.Fatgraphs.{label}
 use Rattle.sc_shape.specs.Classes.{entry}

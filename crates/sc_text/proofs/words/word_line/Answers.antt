@@ -4,7 +4,7 @@ use Rattle.sc_line.specs.declared.fault.Kind.{Kind}
 use Rattle.sc_line.specs.declared.fault.LineFault.{LineFault}
 use Rattle.sc_whole.specs.Spelling.{spelling}
 use Rattle.sc_line.specs.Lines.{fields}
-use Rattle.sc_chain.specs.Spelling.{word_of}
+use Rattle.sc_words.specs.Spelling.{word_of}
 use Rattle.sc_text.specs.Words.{spelled, IsWordInRange}
 use Rattle.sc_line.specs.Faults.{named_fault}
 use Rattle.sc_text.specs.Words.{word_fields_fault, weighted_word_fault}

@@ -1,6 +1,6 @@
 use Rattle.std.proofs.Common.{◌≡◌, ◌≢◌, ◌⊎◌, true, false, List, ℕ, take, get_or, length, sym, ◌∙◌, ap, inl, inr, rules, arith}
 use Rattle.std.proofs.Math.Seq.{take-length}
-use Rattle.sc_chain.specs.ChainText.{is_blank, fields}
+use Rattle.sc_words.specs.ChainText.{is_blank, fields}
 use Rattle.sc_two.specs.TwoTexts.{is_slash}
 use Rattle.sc_two.proofs.Slashes.{bare, slash_is_lone, lone_at_end, other_byte}
 use Rattle.sc_two.proofs.line.is_separator.Goals as goal

@@ -1,7 +1,7 @@
 use Rattle.std.proofs.Common.{◌≡◌, ◌+◌, ◌++◌, map, take, drop, subst}
 use Rattle.std.proofs.Math.ListN.{set}
 use Rattle.std.proofs.lemmas.List.Edits.{map_over_more}
-use Rattle.sc_chain.specs.declared.lines.RawLine.{RawLine}
+use Rattle.sc_words.specs.declared.lines.RawLine.{RawLine}
 use Rattle.sc_two.specs.Behind.{moved}
 use Rattle.sc_two.proofs.two.move_down.Goals as goal
 

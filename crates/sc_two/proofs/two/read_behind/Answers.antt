@@ -2,7 +2,7 @@ use Rattle.std.proofs.Common.{◌≡◌, map, ◌∙◌, sym, ap, subst, arith, 
 use Rattle.std.specs.Prelude.{Err}
 use Rattle.std.specs.List.{All}
 use Rattle.sc_line.specs.declared.fault.TextFault.{TextFault}
-use Rattle.sc_chain.proofs.ReadingLaws.{lines_le}
+use Rattle.sc_words.proofs.ReadingLaws.{lines_le}
 use Rattle.sc_two.specs.inside.Behind.{HasRoom}
 use Rattle.sc_two.specs.Behind.{moved}
 use Rattle.sc_two.proofs.Numbering.{room_for, numbered, written_back}

@@ -1,6 +1,6 @@
 use Rattle.std.proofs.Common.{◌≡◌, ◌+◌, arith, subst, sym, List, ℕ, refl}
 use Rattle.std.proofs.lemmas.Result.{err_from_is_err_and}
-use Rattle.sc_chain.proofs.ReadingLaws.{lines_le}
+use Rattle.sc_words.proofs.ReadingLaws.{lines_le}
 use Rattle.sc_two.specs.TwoTexts.{IsTwoText}
 use Rattle.sc_two.specs.inside.Parts.{IsPart, IsFollowed}
 use Rattle.sc_two.specs.inside.Behind.{AreLinesBehind}

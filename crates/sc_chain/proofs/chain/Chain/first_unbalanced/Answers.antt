@@ -1,5 +1,5 @@
 use Rattle.std.proofs.Common.{◌≤◌, arith, refl}
-use Rattle.sc_chain.specs.declared.limits.TheConstants.{GENERATORS}
+use Rattle.sc_words.specs.declared.limits.TheConstants.{GENERATORS}
 use Rattle.sc_chain.specs.Faults.{IsSmallChain}
 use Rattle.sc_chain.proofs.Balanced.{balanced}
 use Rattle.sc_chain.proofs.chain.Chain.first_unbalanced.Goals as goal

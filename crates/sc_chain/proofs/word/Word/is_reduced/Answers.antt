@@ -1,5 +1,0 @@
-use Rattle.sc_chain.proofs.OneFault.{reduced_where_none}
-use Rattle.sc_chain.proofs.word.Word.is_reduced.Goals as goal
-
-pub returns : goal.returns
-returns c = reduced_where_none c.as_slice.result.now c.args.self.now c.least_cancelling.result c.is_none.result c.as_slice.ensures c.is_none.ensures c.least_cancelling.ensures

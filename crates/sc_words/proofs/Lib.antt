@@ -1,0 +1,6 @@
+pub mod Reduced
+pub mod TextLaws
+pub mod SpellingLaws
+pub mod CoefficientLaws
+pub mod DecisionLaws
+pub mod ReadingLaws

@@ -1,0 +1,2 @@
+-- Definitions that no clause of a public function needs.
+pub mod Decision
