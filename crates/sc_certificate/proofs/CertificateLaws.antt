@@ -9,7 +9,7 @@ use Rattle.sc_theory.specs.Columns.{pair_at}
 use Rattle.sc_chain.specs.declared.polygon.Pivot.{Pivot}
 use Rattle.sc_chain.specs.declared.limits.TheConstants.{MAX_WORDS, MAX_POSITIONS}
 use Rattle.sc_chain.proofs.PairLaws.{pairs_below}
-use Rattle.sc_chain.proofs.PairTables.{few_pairs}
+use Rattle.sc_chain.proofs.PairPlaces.{few_pairs}
 use Rattle.sc_line.specs.Lines.{Line, count_line, lacks, AllLack}
 use Rattle.sc_line.specs.Formats.{IsShort}
 use Rattle.sc_line.proofs.NumberLaws.{IsCountInRange}

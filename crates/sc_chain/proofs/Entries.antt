@@ -1,4 +1,4 @@
--- The entries of a chain's tables, word by word.
+-- The entries of a chain's lookup, word by word.
 use Rattle.std.proofs.Common.{◌≡◌, ℕ, suc, ◌+◌, ◌-◌, ◌<◌, List, [], ◌∷◌, ◌++◌, length, get_or, sym, ◌∙◌, ap, subst, arith, length-append, add-one, inl, inr}
 use Rattle.std.proofs.Math.Seq.{get_or-append_seam}
 use Rattle.std.proofs.lemmas.Bool.{cases_lt}
@@ -7,13 +7,13 @@ use Rattle.sc_theory.specs.declared.Letter.{Letter}
 use Rattle.sc_theory.specs.Chains.{Chain, no_letter, word, positions, first, word_of, letter}
 use Rattle.sc_chain.specs.declared.chain.Place.{Place}
 use Rattle.sc_chain.specs.Faults.{AreGoodBelow}
-use Rattle.sc_chain.specs.Tables.{no_place, AreTables}
-use Rattle.sc_chain.specs.inside.Tables.{place_between, AppendsBelow}
+use Rattle.sc_chain.specs.Lookup.{no_place, IsLookup}
+use Rattle.sc_chain.specs.inside.Lookup.{place_between, AppendsBelow}
 use Rattle.sc_theory.proofs.ChainLaws.{Place as Placed, place, letter_place, first-suc, first_all, neighbours}
 use Rattle.sc_chain.proofs.Firsts.{first-mono, first-lt}
 
--- the tables of the first n words of a chain
-pub record AreTablesBelow (c : Chain) (n : ℕ) (places : List Place) (firsts : List ℕ) : Type 0 where
+-- the lookup of the first n words of a chain
+pub record IsLookupBelow (c : Chain) (n : ℕ) (places : List Place) (firsts : List ℕ) : Type 0 where
   pub len : length places ≡ first c n
   pub firsts_len : length firsts ≡ n
   pub first_at : (w : ℕ) → w < n → get_or firsts w 0 ≡ first c w
@@ -21,7 +21,7 @@ pub record AreTablesBelow (c : Chain) (n : ℕ) (places : List Place) (firsts : 
       get_or places (first c w + k) no_place ≡ place_between (first c w) (first c w + length (word c w)) w (get_or (word c w) k no_letter) (first c w + k)
 
 -- the entry of a position, from the entry of the place of its word
-pub entry_at : (c : Chain) (places : List Place) (firsts : List ℕ) → AreTablesBelow c (length c) places firsts → (i : ℕ) → i < positions c →
+pub entry_at : (c : Chain) (places : List Place) (firsts : List ℕ) → IsLookupBelow c (length c) places firsts → (i : ℕ) → i < positions c →
     get_or places i no_place ≡ place_between (first c (word_of c i)) (first c (suc (word_of c i))) (word_of c i) (letter c i) i
 entry_at c places firsts t i h =
     let p : Placed c i = place c i h in
@@ -37,9 +37,9 @@ entry_at c places firsts t i h =
     ∙ ap (λ (x : Letter). place_between (first c v) (first c (suc v)) v x (first c v + k)) (sym same)
     ∙ ap (λ (n : ℕ). place_between (first c v) (first c (suc v)) v (letter c i) n) at
 
--- the tables of all words of a chain are the tables of the chain
-pub whole : (c : Chain) (places : List Place) (firsts : List ℕ) → AreGoodBelow c (length c) → AreTablesBelow c (length c) places firsts →
-    AreTables c places firsts
+-- the lookup of all words of a chain is the lookup of the chain
+pub whole : (c : Chain) (places : List Place) (firsts : List ℕ) → AreGoodBelow c (length c) → IsLookupBelow c (length c) places firsts →
+    IsLookup c places firsts
 whole c places firsts g t =
     record {
       len = t.len ∙ first_all c;
@@ -83,9 +83,9 @@ place_next c n old new h len below a w k lw lk = elim (cases_lt w n) [
       subst P at here lk)
 ]
 
--- the tables of the first n words, with the entries of the next word, are those of n + 1 words
-pub next_word : (c : Chain) (n : ℕ) (old new : List Place) (firsts : List ℕ) → n < length c → AreTablesBelow c n old firsts →
-    AppendsBelow old new (word c n) n (length (word c n)) → AreTablesBelow c (n + 1) new (firsts ++ length old ∷ [])
+-- the lookup of the first n words, with the entries of the next word, is that of n + 1 words
+pub next_word : (c : Chain) (n : ℕ) (old new : List Place) (firsts : List ℕ) → n < length c → IsLookupBelow c n old firsts →
+    AppendsBelow old new (word c n) n (length (word c n)) → IsLookupBelow c (n + 1) new (firsts ++ length old ∷ [])
 next_word c n old new firsts h t a =
     record {
       len = rw add-one (omega (arith, a.len, t.len, first-suc c n));

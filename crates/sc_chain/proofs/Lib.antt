@@ -5,6 +5,6 @@ pub mod Balanced
 pub mod WordLists
 pub mod PairLists
 pub mod PairLaws
-pub mod PairTables
+pub mod PairPlaces
 pub mod PolygonLaws
 pub mod Marks

@@ -12,7 +12,7 @@ use Rattle.sc_theory.proofs.WordLaws.{letter_from_is_inverse, is_inverse-inverse
 use Rattle.sc_chain.specs.declared.sign.Sign.{Sign}
 use Rattle.sc_chain.specs.declared.sign.Sign.TheVariants.{Plus, Minus}
 use Rattle.sc_chain.specs.Pairs.{place_in, row_in, row_price}
-use Rattle.sc_chain.specs.PairTable.{ArePairsBelow}
+use Rattle.sc_chain.specs.PairPlaces.{ArePairsBelow}
 use Rattle.sc_chain.proofs.PairLists.{IsIn, every, once, place_at, all-firsts, apart-firsts, in-firsts}
 
 -- two positions with inverse letters, the lesser one first

@@ -1,8 +1,8 @@
 pub mod Faults
-pub mod Tables
+pub mod Lookup
 pub mod Kept
 pub mod Balance
 pub mod Pairs
-pub mod PairTable
+pub mod PairPlaces
 pub mod Polygons
 pub mod inside

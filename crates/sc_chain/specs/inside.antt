@@ -1,2 +1,2 @@
 -- Definitions that no clause of a public function needs.
-pub mod Tables
+pub mod Lookup

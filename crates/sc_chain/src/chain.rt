@@ -1,4 +1,4 @@
-//! Chains, and the tables by which their positions are looked up.
+//! Chains, and the lookup of their positions.
 
 ghost use Rattle.std.specs.Prelude.{◌≡◌, ◌≢◌, ◌<◌, ◌≤◌, ◌^◌, ◌+◌, ◌↔◌, length, IsTrue, IfOk, IfSome, IsNone, IsErrOf, OnOk, vec_len};
 ghost use Rattle.sc_theory.specs.Chains.{positions, weighted_length, letter, succ, prev, first, word_of, weight, chain_total, IsBalanced};
@@ -6,8 +6,8 @@ ghost use Rattle.sc_theory.specs.Walks.{IsStep};
 ghost use Rattle.sc_chain.specs.declared.limits.TheConstants.{MAX_POSITIONS};
 ghost use Rattle.sc_chain.specs.Balance.{IsFirstUnbalanced};
 ghost use Rattle.sc_chain.specs.Faults.{AreGoodBelow};
-ghost use Rattle.sc_chain.specs.inside.Tables.{AppendsBelow};
-ghost use Rattle.sc_chain.specs.Tables.{AreTables};
+ghost use Rattle.sc_chain.specs.inside.Lookup.{AppendsBelow};
+ghost use Rattle.sc_chain.specs.Lookup.{IsLookup};
 
 use crate::fault::ChainFault;
 use crate::faults::{first_fault, weigh};
@@ -49,9 +49,9 @@ impl Model for Chain {
     ghost invariant = { IsInside };
 }
 
-/// The tables of a chain: an entry per position, and the first position of each word.
+/// The lookup of a chain: an entry per position, and the first position of each word.
 #[derive(Drop)]
-struct Tables {
+struct Lookup {
     places: Vec<Place>,
     firsts: Vec<usize>,
 }
@@ -86,11 +86,11 @@ fn copy_words(alloc: Global, words: &[(u32, Word)]) -> Result<Vec<(u32, Word)>, 
     Ok(copies)
 }
 
-/// The tables of a list of few words.
-fn tables_of(alloc: Global, words: &[(u32, Word)]) -> Result<Tables, AllocError>
+/// The lookup of a list of few words.
+fn lookup_of(alloc: Global, words: &[(u32, Word)]) -> Result<Lookup, AllocError>
     requires few { positions words.now ≤ MAX_POSITIONS }
     requires good { AreGoodBelow words.now (length words.now) }
-    ensures { IfOk result (λ t. AreTables words.now t.places.items t.firsts.items) }
+    ensures { IfOk result (λ l. IsLookup words.now l.places.items l.firsts.items) }
 {
     let mut places = Vec::new(alloc);
     let mut firsts = Vec::new(alloc);
@@ -98,7 +98,7 @@ fn tables_of(alloc: Global, words: &[(u32, Word)]) -> Result<Tables, AllocError>
         firsts.push(places.len())?;
         append_word(&mut places, entry.1.as_slice(), number)?;
     }
-    Ok(Tables { places, firsts })
+    Ok(Lookup { places, firsts })
 }
 
 impl Chain {
@@ -127,7 +127,7 @@ impl Chain {
         ensures { IfOk result (λ c. c ≡ words.items) }
     {
         let length = weigh(words.as_slice());
-        let Tables { places, firsts } = tables_of(alloc, words.as_slice())?;
+        let Lookup { places, firsts } = lookup_of(alloc, words.as_slice())?;
         Ok(Chain {
             words,
             places,

@@ -6,7 +6,7 @@ ghost use Rattle.sc_theory.specs.Chains.{Chain as AnyChain, positions, letter};
 ghost use Rattle.sc_theory.specs.Prices.{pairs, is_pair, all_positions};
 ghost use Rattle.sc_chain.specs.declared.limits.TheConstants.{MAX_POSITIONS};
 ghost use Rattle.sc_chain.specs.Pairs.{place_in, row_in};
-ghost use Rattle.sc_chain.specs.PairTable.{ArePairsBelow, IsTableOf};
+ghost use Rattle.sc_chain.specs.PairPlaces.{ArePairsBelow, ArePlacesOf};
 
 use crate::chain::Chain;
 use crate::sign::Sign;
@@ -14,8 +14,8 @@ use sc_words::is_inverse;
 use std::alloc::{AllocError, Global};
 use std::marker::Model;
 
-/// The inverse pairs of a chain, numbered from 0, with a table by which the number of a pair is looked up. There is one
-/// row for each in the tables of prices.
+/// The inverse pairs of a chain, numbered from 0, with the places by which the number of a pair is looked up. The
+/// number of a pair is its row.
 #[derive(Debug, Drop)]
 pub struct Pairs {
     positions: usize,
@@ -28,11 +28,11 @@ impl Model for Pairs {
 
     ghost Value = { List (ℕ × ℕ) };
 
-    ghost use Rattle.sc_chain.specs.PairTable.{IsPairTable};
+    ghost use Rattle.sc_chain.specs.PairPlaces.{ArePairPlaces};
 
     ghost view = { λ c. c.pairs.items };
 
-    ghost invariant = { IsPairTable };
+    ghost invariant = { ArePairPlaces };
 }
 
 /// Writes the pairs whose lesser position is p behind the others.
@@ -61,7 +61,7 @@ fn inverse_pairs(alloc: Global, chain: &Chain) -> Result<Vec<(usize, usize)>, Al
     Ok(found)
 }
 
-/// The place of each two positions in a list of pairs, row by row.
+/// The place of each two positions in a list of pairs, by the first of them, then the second.
 fn places_of(
     alloc: Global,
     pairs: &[(usize, usize)],
@@ -69,7 +69,7 @@ fn places_of(
 ) -> Result<Vec<Option<usize>>, AllocError>
     requires few { positions ≤ MAX_POSITIONS }
     requires pairs { ArePairsBelow pairs.now positions }
-    ensures { IfOk result (λ places. IsTableOf pairs.now positions places.items) }
+    ensures { IfOk result (λ places. ArePlacesOf pairs.now positions places.items) }
 {
     let mut places = vec![in alloc; None; positions * positions]?;
     for (place, (p, q)) in pairs.iter().enumerate() {

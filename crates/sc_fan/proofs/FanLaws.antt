@@ -12,7 +12,7 @@ use Rattle.sc_theory.proofs.ChainLaws.{positions-cons}
 use Rattle.sc_theory.proofs.Cyclic.{length-inverse_word}
 use Rattle.sc_chain.specs.declared.limits.TheConstants.{MAX_WORDS, MAX_POSITIONS}
 use Rattle.sc_chain.proofs.PairLaws.{pairs_below}
-use Rattle.sc_chain.proofs.PairTables.{few_pairs}
+use Rattle.sc_chain.proofs.PairPlaces.{few_pairs}
 use Rattle.sc_line.specs.Lines.{Line, count_line, lacks, AllLack}
 use Rattle.sc_line.specs.Formats.{Format, told, a_line, Reads}
 use Rattle.sc_line.specs.Forms.{Both, and_also, LineKind, IsLawful, literal_due, and_then, lines_after, one_due, many_due, both_due}

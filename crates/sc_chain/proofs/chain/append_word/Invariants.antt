@@ -1,4 +1,4 @@
-use Rattle.sc_chain.specs.inside.Tables.{AppendsBelow}
+use Rattle.sc_chain.specs.inside.Lookup.{AppendsBelow}
 use Rattle.sc_chain.proofs.chain.append_word.Given as goal
 
 abbrev pub invariant-loop-place : goal.invariant-loop-place

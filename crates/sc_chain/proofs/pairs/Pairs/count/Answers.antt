@@ -1,7 +1,7 @@
 use Rattle.std.proofs.Common.{arith}
 use Rattle.std.proofs.Math.Nat.{mul-le-mul}
 use Rattle.sc_chain.specs.declared.limits.TheConstants.{MAX_POSITIONS}
-use Rattle.sc_chain.proofs.PairTables.{few_pairs}
+use Rattle.sc_chain.proofs.PairPlaces.{few_pairs}
 use Rattle.sc_chain.proofs.pairs.Pairs.count.Goals as goal
 
 pub returns-clause-few : goal.returns-clause-few

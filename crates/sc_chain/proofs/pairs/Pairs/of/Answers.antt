@@ -10,5 +10,5 @@ pub invariant_of-result : goal.invariant_of-result
 invariant_of-result c = record {
   few = omega (arith, c.positions-positions.ensures.positions, c.positions-positions.ensures.small.few_positions);
   pairs = rw (c.in_ok-pairs.ensures, c.positions-positions.ensures.positions) (pairs_below c.args.chain.now);
-  table = rw c.as_slice.ensures.value at c.in_ok-places.ensures;
+  places = rw c.as_slice.ensures.value at c.in_ok-places.ensures;
 }

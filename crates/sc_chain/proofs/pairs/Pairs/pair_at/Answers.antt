@@ -1,7 +1,7 @@
 use Rattle.std.proofs.Common.{◌≡◌, ◌<◌, ◌∙◌, ℕ, List, length, get_or, ap, subst, sym}
 use Rattle.std.proofs.lemmas.List.{get_or_default}
 use Rattle.sc_chain.specs.Pairs.{row_in}
-use Rattle.sc_chain.proofs.PairTables.{row_once}
+use Rattle.sc_chain.proofs.PairPlaces.{row_once}
 use Rattle.sc_chain.proofs.pairs.Pairs.pair_at.Goals as goal
 
 pub returns-clause-row : goal.returns-clause-row

@@ -1,5 +1,5 @@
 use Rattle.std.proofs.Common.{sym}
-use Rattle.sc_chain.proofs.PairTables.{outside, outside_second}
+use Rattle.sc_chain.proofs.PairPlaces.{outside, outside_second}
 use Rattle.sc_chain.proofs.pairs.Pairs.place.Goals as goal
 use Rattle.sc_chain.proofs.pairs.Pairs.place.Goals.{else-p-self-via-then-p-self+else-q-self, else-p-self-via-else-p-self}
 

@@ -1,5 +1,5 @@
--- What the fields of the pairs keep: each pair is of a lesser and a greater position, and stands once; and the table has
--- the place of each.
+-- What the fields of the pairs keep: each pair is of a lesser and a greater position, and stands once; and the places
+-- tell that of each.
 use Rattle.std.specs.Prelude.{◌≡◌, ℕ, ◌+◌, ◌*◌, ◌<◌, ◌≤◌, List, length, get_or, Option, None}
 use Rattle.sc_theory.specs.Prices.{place_of}
 use Rattle.sc_chain.specs.declared.limits.TheConstants.{MAX_POSITIONS}
@@ -12,12 +12,12 @@ pub record ArePairsBelow (ps : List (ℕ × ℕ)) (n : ℕ) : Type 0 where
   pub below : (k : ℕ) → k < length ps → (get_or ps k (0, 0)).1 < n
   pub once : (k : ℕ) → k < length ps → place_of ps (get_or ps k (0, 0)).0 (get_or ps k (0, 0)).1 ≡ k
 
--- two numbers below n have their place in the table, row by row
-pub record IsTableOf (ps : List (ℕ × ℕ)) (n : ℕ) (table : List (Option ℕ)) : Type 0 where
-  pub len : length table ≡ n * n
-  pub place_at : (p q : ℕ) → p < n → q < n → get_or table (p * n + q) None ≡ place_in ps p q
+-- two numbers below n have their place in these, by the first of them, then the second
+pub record ArePlacesOf (ps : List (ℕ × ℕ)) (n : ℕ) (places : List (Option ℕ)) : Type 0 where
+  pub len : length places ≡ n * n
+  pub place_at : (p q : ℕ) → p < n → q < n → get_or places (p * n + q) None ≡ place_in ps p q
 
-pub record IsPairTable (c : Inside) : Type 0 where
+pub record ArePairPlaces (c : Inside) : Type 0 where
   pub few : c.positions ≤ MAX_POSITIONS
   pub pairs : ArePairsBelow c.pairs.items c.positions
-  pub table : IsTableOf c.pairs.items c.positions c.places.items
+  pub places : ArePlacesOf c.pairs.items c.positions c.places.items

@@ -1,4 +1,4 @@
--- The table of the places of pairs, one pair after another.
+-- The places of pairs, one pair after another.
 use Rattle.std.proofs.Common.{◌≡◌, ◌≢◌, ℕ, suc, ◌+◌, ◌*◌, ◌/◌, ◌<◌, ◌≤◌, false, eqb, List, [], ◌∷◌, ◌++◌, length, get_or, take, drop, set, Option, Some, None, inl, inr, arith, sym, ap, subst, ◌∙◌, length-append, suc-mul, take-append-drop}
 use Rattle.std.proofs.lemmas.Bool.{cases_Bool, cases_lt, true≢false, and_from, eq-eqb}
 use Rattle.std.proofs.lemmas.Nat.{div-mul-add}
@@ -9,7 +9,7 @@ use Rattle.sc_algebra.proofs.Cycles.{pigeonhole}
 use Rattle.sc_theory.specs.Prices.{place_of}
 use Rattle.sc_chain.specs.declared.sign.Sign.TheVariants.{Plus}
 use Rattle.sc_chain.specs.Pairs.{place_in, row_in}
-use Rattle.sc_chain.specs.PairTable.{ArePairsBelow, IsTableOf}
+use Rattle.sc_chain.specs.PairPlaces.{ArePairsBelow, ArePlacesOf}
 use Rattle.sc_chain.proofs.PairLists.{same, same_itself, same_is, place_here, place_next, place-le, place_at, place-append_left, place-append_right}
 use Rattle.sc_chain.proofs.PairLaws.{place_in-yes, place_in-no, row-plus}
 
@@ -33,7 +33,7 @@ outside_second ps n p q are h = elim (cases_lt (place_of ps p q) (length ps)) [
   | inr i ↦ place_in-no ps p q i
 ]
 
--- an index of the table is that of one pair of numbers
+-- an index of the places is that of one pair of numbers
 same_row : (n p q a b : ℕ) → q < n → b < n → p * n + q ≡ a * n + b → p ≡ a
 same_row n p q a b hq hb e = sym (div-mul-add p n q hq) ∙ ap (λ (x : ℕ). x / n) e ∙ div-mul-add a n b hb
 
@@ -81,30 +81,30 @@ not_before ps n k are h =
       | inr i ↦ i
     ]
 
--- the table of the first k pairs, with the place k written at the index of the next pair, is that of k + 1 pairs
-pub table_more : (ps : List (ℕ × ℕ)) (n k : ℕ) (table : List (Option ℕ)) → ArePairsBelow ps n → k < length ps → IsTableOf (take k ps) n table →
-    IsTableOf (take (k + 1) ps) n (set table ((get_or ps k (0, 0)).0 * n + (get_or ps k (0, 0)).1) (Some k))
-table_more ps n k table are h t =
+-- the places of the first k pairs, with the place k written at the index of the next pair, are those of k + 1 pairs
+pub places_more : (ps : List (ℕ × ℕ)) (n k : ℕ) (places : List (Option ℕ)) → ArePairsBelow ps n → k < length ps → ArePlacesOf (take k ps) n places →
+    ArePlacesOf (take (k + 1) ps) n (set places ((get_or ps k (0, 0)).0 * n + (get_or ps k (0, 0)).1) (Some k))
+places_more ps n k places are h t =
     let a : ℕ × ℕ = get_or ps k (0, 0) in
     let more : take (k + 1) ps ≡ take k ps ++ a ∷ [] = take_more ps k (0, 0) h in
     let len : length (take k ps) ≡ k = length-take-le k ps (omega arith) in
     let low : a.0 < a.1 = are.ordered k h in
     let high : a.1 < n = are.below k h in
-    let inside : a.0 * n + a.1 < length table = omega (arith, t.len, index_inside n a.0 a.1 (omega arith) high) in
+    let inside : a.0 * n + a.1 < length places = omega (arith, t.len, index_inside n a.0 a.1 (omega arith) high) in
     record {
-      len = length-set table (a.0 * n + a.1) (Some k) ∙ t.len;
+      len = length-set places (a.0 * n + a.1) (Some k) ∙ t.len;
       place_at = λ p q hp hq. elim (cases_Bool (same a p q)) [
         | inl e ↦
             (let is : a ≡ (p, q) = same_is a p q e in
             let at : p * n + q ≡ a.0 * n + a.1 = ap (λ (b : ℕ × ℕ). b.0 * n + b.1) (sym is) in
-            get_or-set_at table (a.0 * n + a.1) (p * n + q) (Some k) None at inside
+            get_or-set_at places (a.0 * n + a.1) (p * n + q) (Some k) None at inside
             ∙ sym (ap (λ (l : List (ℕ × ℕ)). place_in l p q) more
             ∙ ap (λ (b : ℕ × ℕ). place_in (take k ps ++ a ∷ []) b.0 b.1) (sym is)
             ∙ place_added (take k ps) a (omega (arith, not_before ps n k are h))
             ∙ ap (λ (j : ℕ). Some j) len))
         | inr e ↦
             (let apart : p * n + q ≢ a.0 * n + a.1 = λ s. other_pair a p q n hq high e s in
-            get_or-set_other table (a.0 * n + a.1) (p * n + q) (Some k) None apart
+            get_or-set_other places (a.0 * n + a.1) (p * n + q) (Some k) None apart
             ∙ t.place_at p q hp hq
             ∙ sym (ap (λ (l : List (ℕ × ℕ)). place_in l p q) more ∙ place_other (take k ps) a p q e))
       ];
