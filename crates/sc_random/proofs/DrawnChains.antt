@@ -1,22 +1,19 @@
 -- The chain of two commutators is balanced, and within the limits.
-use Rattle.std.proofs.Common.{◌≡◌, ℕ, zero, suc, ◌+◌, ◌-◌, ◌*◌, ◌<◌, ◌≤◌, List, [], ◌∷◌, ◌++◌, length, take, drop, get_or, All, None, ℤ, pos, neg_ℤ, ◌+ℤ◌, ◌*ℤ◌, unsigned_abs, refl, ap, ap₂, sym, ◌∙◌, subst, arith, inl, inr}
+use Rattle.std.proofs.Common.{◌≡◌, ℕ, zero, suc, ◌-◌, ◌*◌, ◌≤◌, List, [], ◌∷◌, ◌++◌, length, take, drop, get_or, All, None, ℤ, pos, ◌+ℤ◌, ◌*ℤ◌, unsigned_abs, refl, ap, ap₂, ◌∙◌, arith}
 use Rattle.std.proofs.lemmas.Int.{ints}
-use Rattle.std.proofs.lemmas.Bool.{cases_lt}
 use Rattle.std.proofs.lemmas.List.{length-append, length-take-le, length-drop}
 use Rattle.std.proofs.lemmas.List.Elements.{All-nil, All-cons}
 use Rattle.std.proofs.lemmas.List.Sums.{sum_by-cons}
 use Rattle.rand_core.specs.Pcg32Seed.{pcg32_seed}
 use Rattle.rand_pcg.specs.Pcg.{pcg32_of_seed}
-use Rattle.sc_algebra.proofs.Ints.{one-mul}
 use Rattle.sc_theory.specs.Words.{Word, inverse_word, total, cyclic_reduction}
-use Rattle.sc_theory.specs.Chains.{Chain, positions, chain_total, IsBalanced, no_letter}
+use Rattle.sc_theory.specs.Chains.{positions, IsBalanced, no_letter}
 use Rattle.sc_theory.proofs.WordLaws.{total-append, total-inverse_word}
 use Rattle.sc_words.specs.declared.lines.RawLine.{RawLine}
-use Rattle.sc_words.specs.declared.limits.TheConstants.{GENERATORS}
 use Rattle.sc_words.specs.ChainText.{IsRawLine}
 use Rattle.sc_chain.specs.declared.fault.ChainFault.{ChainFault}
 use Rattle.sc_chain.specs.declared.fault.ChainFault.TheVariants.{EmptyWord, NotReduced, ManyWords, ManyPositions, Heavy, Memory}
-use Rattle.sc_reduce.specs.Lines.{signed_word, weighted_word, line_chain, chain_of, letters_of, lines_total, IsWithin, IsExcess}
+use Rattle.sc_reduce.specs.Lines.{signed_word, weighted_word, line_chain, chain_of, letters_of, IsWithin, IsExcess}
 use Rattle.sc_reduce.proofs.LineLaws.{positions_of_chain, chain_total-chain_of}
 use Rattle.sc_random.specs.Drawn.{draws_of, drawn_word, commutator, drawn_commutator, drawn_lines, drawn_chain}
 use Rattle.sc_random.proofs.DrawnWords.{IsDrawn, word_drawn, commutator_drawn, length-drawn_commutator, length-first_words}

@@ -1,5 +1,5 @@
 -- Words that are drawn by a seed, and the chain of two commutators of them.
-use Rattle.std.specs.Prelude.{◌≡◌, ℕ, ◌*◌, ◌%◌, ◌≤◌, true, false, not, List, [], ◌∷◌, ◌++◌, take, drop, length, get_or, Option, None, Some, pos}
+use Rattle.std.specs.Prelude.{ℕ, ◌*◌, ◌%◌, true, false, not, List, [], ◌∷◌, ◌++◌, take, drop, length, get_or, Option, None, Some, pos}
 use Rattle.std.specs.List.{filter}
 use Rattle.rand_core.specs.Steps.{first_words}
 use Rattle.rand_core.specs.Pcg32Seed.{pcg32_seed}

@@ -1,9 +1,7 @@
-use Rattle.std.proofs.Common.{◌≡◌, ◌*◌, ◌≤◌, ap, ◌∙◌, sym, subst, arith, All}
-use Rattle.sc_theory.specs.Chains.{Chain, IsBalanced, positions}
-use Rattle.sc_words.specs.declared.lines.RawLine.{RawLine}
+use Rattle.std.proofs.Common.{ap, ◌∙◌, sym, subst, arith, All}
+use Rattle.sc_theory.specs.Chains.{IsBalanced, positions}
 use Rattle.sc_words.specs.ChainText.{IsRawLine}
 use Rattle.sc_reduce.specs.Lines.{chain_of, letters_of, IsExcess}
-use Rattle.sc_random.specs.Drawn.{drawn_lines, drawn_chain}
 use Rattle.sc_random.proofs.DrawnChains.{raw_lines, letters, balanced, few_positions, memory_alone}
 use Rattle.sc_random.proofs.chain.drawn_chain.Goals as goal
 

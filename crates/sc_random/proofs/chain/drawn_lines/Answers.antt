@@ -1,5 +1,4 @@
 use Rattle.std.proofs.Common.{◌≡◌, ◌*◌, length, ap, ◌∙◌, arith}
-use Rattle.sc_random.specs.Drawn.{draws_of}
 use Rattle.sc_random.proofs.DrawnChains.{length-draws}
 use Rattle.sc_random.proofs.chain.drawn_lines.Goals as goal
 
