@@ -5,7 +5,7 @@ use Rattle.sc_theory.specs.Chains.{Chain}
 use Rattle.sc_theory.specs.Fatgraphs.{Sides}
 use Rattle.sc_line.specs.declared.fault.Kind.{Kind}
 use Rattle.sc_line.specs.Faults.{Plan, IsFaultless, IsFirstFault}
-use Rattle.sc_text.specs.Surfaces.{surface_text, surface_table}
+use Rattle.sc_text.specs.Surfaces.{surface_text, surface_plan}
 use Rattle.sc_line.proofs.FaultLaws.{faultless_first}
 use Rattle.sc_text.proofs.SurfaceLaws.{faultless_text}
 use Rattle.sc_text.proofs.SurfaceLaws.{one_text, SameSurface}
@@ -40,7 +40,7 @@ certificate_heading : (v : Certificate) → is_headed_as_certificate (certificat
 unfolding is_headed_as_certificate
 certificate_heading v = refl
 
-plan_of_surface : (input : List ℕ) (c : Chain) (n : ℕ) (g : Sides) → IsTextOf input c n g → plan_for input ≡ surface_table
+plan_of_surface : (input : List ℕ) (c : Chain) (n : ℕ) (g : Sides) → IsTextOf input c n g → plan_for input ≡ surface_plan
 plan_of_surface input c n g t =
     ap plan_of (cond-false (is_headed_as_certificate input) CertificateText SurfaceText (ap is_headed_as_certificate t.text ∙ surface_heading c n g))
 
@@ -53,7 +53,7 @@ plan_of_certificate input v t =
 says_faultless : (input : List ℕ) (c : Chain) (n : ℕ) (g : Sides) → Says input c n g → IsFaultless (plan_for input) input
 says_faultless input c n g (inl t) =
     subst (λ (plan : Plan). IsFaultless plan input) (sym (plan_of_surface input c n g t))
-    (subst (IsFaultless surface_table) (sym t.text) (faultless_text c n g t.in_range))
+    (subst (IsFaultless surface_plan) (sym t.text) (faultless_text c n g t.in_range))
 says_faultless input c n g (inr t) =
     subst (λ (plan : Plan). IsFaultless plan input) (sym (plan_of_certificate input t.certificate t.text)) (certificate_faultless input t.certificate t.text)
 

@@ -20,7 +20,7 @@ use Rattle.sc_words.proofs.ReadingLaws.{raw_lines_in_range}
 use Rattle.sc_reduce.specs.Lines.{chain_of, IsWithin}
 use Rattle.sc_reduce.proofs.LineLaws.{generators_of_chain}
 use Rattle.sc_line.specs.Faults.{Plan, IsFaultless, fault_at}
-use Rattle.sc_text.specs.Surfaces.{surface_table}
+use Rattle.sc_text.specs.Surfaces.{surface_plan}
 use Rattle.sc_text.proofs.SurfaceLaws.{readable_text}
 use Rattle.sc_certificate.specs.Certificates.{Certificate, certificate_plan}
 use Rattle.sc_certificate.proofs.TextLaws.{faultless_is_text}
@@ -115,7 +115,7 @@ module _ (Tells : Chain → ℕ → Sides → List ℕ → Type 0) (input : List
           says = inr (record { certificate = t.0; text = record { text = t.2; in_range = t.1 }; chain = refl; copies = refl; sides = refl });
         }
     | inr other ↦
-        let plan : plan_for input ≡ surface_table = ap plan_of (cond-false (is_headed_as_certificate input) CertificateText SurfaceText other) in
+        let plan : plan_for input ≡ surface_plan = ap plan_of (cond-false (is_headed_as_certificate input) CertificateText SurfaceText other) in
         let t = readable_text input (subst (λ (p : Plan). IsFaultless p input) plan good_surface) in
         record {
           chain = t.words;

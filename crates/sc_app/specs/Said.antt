@@ -4,7 +4,7 @@ use Rattle.std.specs.List.{starts_with}
 use Rattle.sc_theory.specs.Chains.{Chain}
 use Rattle.sc_theory.specs.Fatgraphs.{Sides, IsFatgraph}
 use Rattle.sc_line.specs.Faults.{Plan, IsFirstFault}
-use Rattle.sc_text.specs.Surfaces.{surface_text, surface_table, IsSurfaceInRange}
+use Rattle.sc_text.specs.Surfaces.{surface_text, surface_plan, IsSurfaceInRange}
 use Rattle.sc_fatgraph.specs.Flaws.{IsFirstFlaw}
 use Rattle.sc_certificate.specs.Certificates.{Certificate, certificate_text, heading, certificate_plan, IsCertificateInRange}
 use Rattle.sc_prices.specs.declared.verdict.Condition.TheVariants.{Flaw}
@@ -51,7 +51,7 @@ heading_of input = if is_headed_as_certificate input then CertificateText else S
 -- the lines that are due in a text of this kind
 abbrev pub plan_of : Heading → Plan
 plan_of CertificateText = certificate_plan
-plan_of SurfaceText = surface_table
+plan_of SurfaceText = surface_plan
 
 -- the lines that are due in the input
 abbrev pub plan_for : List ℕ → Plan

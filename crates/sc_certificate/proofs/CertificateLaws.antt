@@ -20,7 +20,7 @@ use Rattle.sc_text.specs.declared.limits.Limits.{Limits}
 use Rattle.sc_text.specs.declared.limits.TheConstants.{VERSION_1, MAX_SIDES, MAX_PIVOTS}
 use Rattle.sc_text.specs.PriceLines.{IsScaleInRange, IsPriceInRange, a_scale, a_base, a_pair}
 use Rattle.sc_text.specs.ValueLines.{Quotient, IsValueInRange, a_value}
-use Rattle.sc_text.specs.TableLines.{Entry, IsRowInRange, a_row}
+use Rattle.sc_text.specs.TableLines.{Entry, IsTableInRange, a_table}
 use Rattle.sc_text.specs.Parts.{words_form, copies_form, sides_form, scale_form, bases_form, pairs_form, tables_form}
 use Rattle.sc_text.specs.Surfaces.{ending, uncounted}
 use Rattle.sc_text.proofs.KindLaws.{scale_kind, base_kind, pair_kind, from_kind, value_kind}
@@ -59,8 +59,8 @@ module _ (m : Limits) (c : Chain) (small : IsChainFor m.words m.positions c) whe
       lawful_all (λ (prices : List ℤ). a_pair (pair_at c (length prices))) IsPriceInRange (λ b. pair_kind (pair_at c (length b))) (λ b y. lacks-pair_line (pair_at c (length b), y)) (length (pairs c)) (m.positions * m.positions)
       (few_pairs_of c m.positions small.letters)
 
-  lawful_tables : IsLawful (tables_form (positions c)).lines ((tables_form (positions c)).due []) (AreAll (IsRowInRange (positions c)) (positions c)) m.positions
-  lawful_tables = lawful_all (λ (rows : Tables). a_row (positions c) (length rows)) (IsRowInRange (positions c)) (λ b. from_kind (positions c) (length b)) (λ b row. lacks-from_line (length b, row)) (positions c) m.positions small.letters
+  lawful_tables : IsLawful (tables_form (positions c)).lines ((tables_form (positions c)).due []) (AreAll (IsTableInRange (positions c)) (positions c)) m.positions
+  lawful_tables = lawful_all (λ (rows : Tables). a_table (positions c) (length rows)) (IsTableInRange (positions c)) (λ b. from_kind (positions c) (length b)) (λ b row. lacks-from_line (length b, row)) (positions c) m.positions small.letters
 
   lawful_journal : IsLawful (journal_form m c).lines ((journal_form m c).due uncounted) (AreFew (IsPivotInRange c) m.pivots) (suc m.pivots)
   lawful_journal = lawful_few (λ (before : List Pivot). a_pivot c) (IsPivotInRange c) (λ b. pivot_kind c) (λ b. lacks-pivot_line) (codes "pivots") m.pivots refl (λ n. lacks-numbers_line (codes "pivots") (pos n ∷ []) refl)
@@ -72,7 +72,7 @@ abbrev pub IsBodyFor : Limits → Chain → BodyTold → Type 0
 IsBodyFor m c v =
     IsCountInRange 1 m.copies v.first × (AreSidesFor m.sides v.second.first × (IsScaleInRange v.second.second.first
     × (AreAll IsPriceInRange (length c) v.second.second.second.first × (AreAll IsPriceInRange (length (pairs c)) v.second.second.second.second.first
-    × (AreAll (IsRowInRange (positions c)) (positions c) v.second.second.second.second.second.first × (AreFew (IsPivotInRange c) m.pivots v.second.second.second.second.second.second.first × Unit {0}))))))
+    × (AreAll (IsTableInRange (positions c)) (positions c) v.second.second.second.second.second.first × (AreFew (IsPivotInRange c) m.pivots v.second.second.second.second.second.second.first × Unit {0}))))))
 
 -- the most lines that are read behind the value
 abbrev pub body_most : Limits → ℕ

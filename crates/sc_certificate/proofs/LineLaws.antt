@@ -150,9 +150,9 @@ module _ (o : Option ChainAndValue) (none : o ≡ None) (body : ChainAndValue �
       subst (λ (g : Format Certificate). Steps g (lines_at f' (Some h) body) line) now step
 
   -- behind all words the fault of a line is that of a value
-  pub value_fault : (f : Format FrontTold) (c : Chain) (line : Line) (e : LineFault) → f ≡ told (and_also tt c) → IsFault (a_value.fault line) e → IsFault (fault_due (lines_at f o body) line) e
+  pub value_refused : (f : Format FrontTold) (c : Chain) (line : Line) (e : LineFault) → f ≡ told (and_also tt c) → IsFault (a_value.fault line) e → IsFault (fault_due (lines_at f o body) line) e
   unfolding lines_at
-  value_fault f c line e whole bad =
+  value_refused f c line e whole bad =
       let now : lines_at (told (and_also tt c)) None body ≡ lines_at f o body = λ i. lines_at (sym whole i) (sym none i) body in
       subst (λ (g : Format Certificate). IsFault (fault_due g line) e) now bad
 

@@ -25,7 +25,7 @@ use Rattle.sc_line.specs.Lines.{AllLack, Line, Field, fields, number_of, first_n
 use Rattle.sc_line.specs.Formats.{IsLineKind}
 use Rattle.sc_line.proofs.LineLaws.{fields-spaced, lacks-spelling, number_of-spelling, number_of_is, number_of_from, named_is, taken_is, line_from_fields}
 use Rattle.sc_line.proofs.NumberLaws.{between-natural, named_inverse, IsLineOf, kind_from}
-use Rattle.sc_certificate.specs.PivotLines.{pivot_line, pivot_row, pivot_in, pivot_fault, is_natural, is_below, are_naturals, naturals_of, IsPivotInRange}
+use Rattle.sc_certificate.specs.PivotLines.{pivot_line, pivot_fault, pivot_of_line, pivot_fields_fault, is_natural, is_below, are_naturals, naturals_of, IsPivotInRange}
 use Rattle.sc_certificate.specs.inside.PivotLines.{walk_fault, IsNoPosition}
 
 abbrev numbers : List ℕ → List Field
@@ -54,14 +54,14 @@ numbers_tell (i ∷ walk) = rw (number_of-spelling (pos i)) (ap (λ (rest : List
 below_test : (n i : ℕ) → i < n → is_below n (pos i) ≡ true
 below_test n i h = let upper : int_lt (pos i) (pos n) ≡ true = grind (arith, ints, nat_tests) in and_from (is_natural (pos i)) (int_lt (pos i) (pos n)) (natural_test i) upper
 
-good_pivot : (c : Chain) (p : Pivot) → IsPivotInRange c p → pivot_row c (pivot_line p) ≡ None
+good_pivot : (c : Chain) (p : Pivot) → IsPivotInRange c p → pivot_fault c (pivot_line p) ≡ None
 good_pivot c p h =
     let polygon : is_polygon c p.polygon ≡ true = (polygons_are_decided c p.polygon).1 h.polygon in
-    named_is (codes "pivot") (pivot_fault c) (pivot_line p) _ (fields-pivot_line p)
+    named_is (codes "pivot") (pivot_fields_fault c) (pivot_line p) _ (fields-pivot_line p)
     ∙ rw (number_of-spelling (pos p.row), numbers_are p.polygon, numbers_tell p.polygon, polygon, below_test (rows c) p.row h.row) refl
 
-pivot_in-pivot_line : (p : Pivot) → pivot_in (pivot_line p) ≡ p
-pivot_in-pivot_line p = rw (fields-pivot_line p, number_of-spelling (pos p.row), numbers_tell p.polygon) refl
+pivot_of_line-pivot_line : (p : Pivot) → pivot_of_line (pivot_line p) ≡ p
+pivot_of_line-pivot_line p = rw (fields-pivot_line p, number_of-spelling (pos p.row), numbers_tell p.polygon) refl
 
 -- ---- lines by their fault
 
@@ -102,7 +102,7 @@ below_field n f (Some (pos k)) e h =
     record { natural = k; is = number_of_is f (pos k) e; below = below }
 below_field n f (Some (negsuc k)) e h = absurd (false≢true h)
 
-pivot_from : (c : Chain) (line : Line) (fs : List Field) → fields line ≡ codes "pivot" ∷ fs → pivot_fault c fs ≡ None → IsLineOf pivot_line (IsPivotInRange c) line
+pivot_from : (c : Chain) (line : Line) (fs : List Field) → fields line ≡ codes "pivot" ∷ fs → pivot_fields_fault c fs ≡ None → IsLineOf pivot_line (IsPivotInRange c) line
 pivot_from c line [] e h = absurd (none-some Form (sym h))
 pivot_from c line (row ∷ walk) e h =
     elim (cases_Bool (is_some (number_of row) && are_naturals walk && is_polygon c (naturals_of walk))) [
@@ -124,14 +124,14 @@ pivot_from c line (row ∷ walk) e h =
       | inr others ↦ absurd (none-some Form (sym (let fault : Some Form ≡ None = rw others at h in fault)))
     ]
 
-pivot_inverse : (c : Chain) (line : Line) → pivot_row c line ≡ None → IsLineOf pivot_line (IsPivotInRange c) line
+pivot_inverse : (c : Chain) (line : Line) → pivot_fault c line ≡ None → IsLineOf pivot_line (IsPivotInRange c) line
 pivot_inverse c line h =
-    let named = named_inverse (codes "pivot") (pivot_fault c) line h in
+    let named = named_inverse (codes "pivot") (pivot_fields_fault c) line h in
     pivot_from c line named.rest named.fields named.good
 
 -- the lines of pivots without a fault are exactly those of the pivots in range, and tell them
-pub pivot_kind : (c : Chain) → IsLineKind (pivot_row c) pivot_in pivot_line (IsPivotInRange c)
-pivot_kind c = kind_from (pivot_row c) pivot_in pivot_line (IsPivotInRange c) (good_pivot c) (λ p in_range. pivot_in-pivot_line p) (pivot_inverse c)
+pub pivot_kind : (c : Chain) → IsLineKind (pivot_fault c) pivot_of_line pivot_line (IsPivotInRange c)
+pivot_kind c = kind_from (pivot_fault c) pivot_of_line pivot_line (IsPivotInRange c) (good_pivot c) (λ p in_range. pivot_of_line-pivot_line p) (pivot_inverse c)
 
 -- ---- fields that are no positions
 
@@ -197,12 +197,12 @@ module _ (c : Chain) (fs : List Field) (before : List ℕ) (f : Field) (after : 
 -- ---- the fault of the fields of a pivot
 
 -- a pivot whose first field is no number has the fault Form
-pub row_missing : (c : Chain) (fs : List Field) → first_number fs ≡ None → pivot_fault c fs ≡ Some Form
+pub row_missing : (c : Chain) (fs : List Field) → first_number fs ≡ None → pivot_fields_fault c fs ≡ Some Form
 row_missing c [] h = refl
 row_missing c (f ∷ fs) h = rw h refl
 
 -- behind a row that is a number, the fault of the walk is that of the pivot
-pub walk_bad : (c : Chain) (f : Field) (fs : List Field) (z : ℤ) (k : Kind) → number_of f ≡ Some z → walk_fault c fs ≡ Some k → pivot_fault c (f ∷ fs) ≡ Some k
+pub walk_bad : (c : Chain) (f : Field) (fs : List Field) (z : ℤ) (k : Kind) → number_of f ≡ Some z → walk_fault c fs ≡ Some k → pivot_fields_fault c (f ∷ fs) ≡ Some k
 walk_bad c f fs z k e h =
     elim (cases_Bool (are_naturals fs && is_polygon c (naturals_of fs))) [
       | inl form ↦ absurd (none-some k (let fault : None ≡ Some k = rw form at h in fault))
@@ -210,7 +210,7 @@ walk_bad c f fs z k e h =
     ]
 
 -- with a polygon behind it, a row that the chain doesn't have has the fault Range
-pub row_far : (c : Chain) (f : Field) (fs : List Field) (z : ℤ) → number_of f ≡ Some z → walk_fault c fs ≡ None → is_below (rows c) z ≡ false → pivot_fault c (f ∷ fs) ≡ Some Range
+pub row_far : (c : Chain) (f : Field) (fs : List Field) (z : ℤ) → number_of f ≡ Some z → walk_fault c fs ≡ None → is_below (rows c) z ≡ false → pivot_fields_fault c (f ∷ fs) ≡ Some Range
 row_far c f fs z e h far =
     elim (cases_Bool (are_naturals fs && is_polygon c (naturals_of fs))) [
       | inl form ↦ rw (e, form, far) refl
@@ -233,19 +233,19 @@ other_fields c walk h =
 -- ---- the same of a line
 
 module _ (c : Chain) (line : Line) (fs : List Field) (named : fields line ≡ codes "pivot" ∷ fs) where
-  pub line_row_missing : first_number fs ≡ None → pivot_row c line ≡ Some Form
-  line_row_missing h = named_is (codes "pivot") (pivot_fault c) line fs named ∙ row_missing c fs h
+  pub line_row_missing : first_number fs ≡ None → pivot_fault c line ≡ Some Form
+  line_row_missing h = named_is (codes "pivot") (pivot_fields_fault c) line fs named ∙ row_missing c fs h
 
-  pub line_walk_bad : (rest : List Field) (number : Option ℤ) (e : LineFault) → TakesNumber fs rest number → IsFault (walk_fault c rest) e → IsFault (pivot_row c line) e
-  line_walk_bad rest number (Malformed k) t h = named_is (codes "pivot") (pivot_fault c) line fs named ∙ ap (pivot_fault c) t.taken ∙ walk_bad c t.field rest t.value k t.spells h
+  pub line_walk_bad : (rest : List Field) (number : Option ℤ) (e : LineFault) → TakesNumber fs rest number → IsFault (walk_fault c rest) e → IsFault (pivot_fault c line) e
+  line_walk_bad rest number (Malformed k) t h = named_is (codes "pivot") (pivot_fields_fault c) line fs named ∙ ap (pivot_fields_fault c) t.taken ∙ walk_bad c t.field rest t.value k t.spells h
   line_walk_bad rest number Memory t h = tt
 
-  pub line_no_polygon : (rest : List Field) (number : Option ℤ) (walk : List ℕ) → TakesNumber fs rest number → rest ≡ numbers walk → (IsPolygon c walk → ⊥) → pivot_row c line ≡ Some Form
+  pub line_no_polygon : (rest : List Field) (number : Option ℤ) (walk : List ℕ) → TakesNumber fs rest number → rest ≡ numbers walk → (IsPolygon c walk → ⊥) → pivot_fault c line ≡ Some Form
   line_no_polygon rest number walk t e h = line_walk_bad rest number (Malformed Form) t (ap (walk_fault c) e ∙ other_fields c walk h)
 
-  pub line_row_far : (rest : List Field) (number : Option ℤ) (walk : List ℕ) → TakesNumber fs rest number → rest ≡ numbers walk → IsPolygon c walk → ((z : ℤ) → IsNarrowed z number → is_below (rows c) z ≡ false) → pivot_row c line ≡ Some Range
+  pub line_row_far : (rest : List Field) (number : Option ℤ) (walk : List ℕ) → TakesNumber fs rest number → rest ≡ numbers walk → IsPolygon c walk → ((z : ℤ) → IsNarrowed z number → is_below (rows c) z ≡ false) → pivot_fault c line ≡ Some Range
   line_row_far rest number walk t e polygon far =
-      named_is (codes "pivot") (pivot_fault c) line fs named ∙ ap (pivot_fault c) t.taken ∙ row_far c t.field rest t.value t.spells (ap (walk_fault c) e ∙ polygon_fields c walk polygon) (far t.value t.narrowed)
+      named_is (codes "pivot") (pivot_fields_fault c) line fs named ∙ ap (pivot_fields_fault c) t.taken ∙ row_far c t.field rest t.value t.spells (ap (walk_fault c) e ∙ polygon_fields c walk polygon) (far t.value t.narrowed)
 
   -- a line of the fields of a row and of positions is that of the pivot
   pub line_of_pivot : (rest : List Field) (number : Option ℤ) (row : ℕ) (walk : List ℕ) → TakesNumber fs rest number → number ≡ Some (pos row) → rest ≡ numbers walk → line ≡ pivot_line (record { row = row; polygon = walk })

@@ -14,7 +14,7 @@ use Rattle.sc_text.specs.Words.{word_line, a_word}
 use Rattle.sc_text.specs.Sides.{side_line, a_side}
 use Rattle.sc_text.specs.PriceLines.{scale_line, base_line, pair_line, a_base, a_pair}
 use Rattle.sc_text.specs.ValueLines.{value_line}
-use Rattle.sc_text.specs.TableLines.{from_line, a_row}
+use Rattle.sc_text.specs.TableLines.{from_line, a_table}
 use Rattle.sc_text.specs.Surfaces.{ending}
 use Rattle.sc_certificate.specs.PivotLines.{pivot_line, a_pivot}
 use Rattle.sc_certificate.specs.Certificates.{Certificate, heading, certificate_lines}
@@ -37,7 +37,7 @@ pair_lines_are all front (p ∷ ps) before (y ∷ ys) e at len =
     let rest = pair_lines_are all (front ++ p ∷ []) ps (before ++ y ∷ []) ys (e ∙ sym (append_assoc front (p ∷ []) ps)) (omega (arith, length_push before y, length_push front p)) (omega arith) in
     λ i. pair_line (here i) y ∷ rest i
 
-from_lines_are : (k n : ℕ) (before rows : Tables) → length before ≡ n → lines_after (λ (b : Tables). a_row k (length b)) before rows ≡ map (λ e. from_line e.0 e.1) (enumerate_from n rows)
+from_lines_are : (k n : ℕ) (before rows : Tables) → length before ≡ n → lines_after (λ (b : Tables). a_table k (length b)) before rows ≡ map (λ e. from_line e.0 e.1) (enumerate_from n rows)
 from_lines_are k n before [] at = refl
 from_lines_are k n before (row ∷ rows) at =
     let rest = from_lines_are k (n + 1) (before ++ row ∷ []) rows (omega (arith, length_push before row)) in

@@ -8,7 +8,7 @@ use Rattle.sc_line.specs.declared.fault.TextFault.TheVariants as text_faults
 use Rattle.sc_line.specs.Faults.{IsFaultless, IsFaultOf, IsFirstFault}
 use Rattle.sc_line.specs.Formats.{Format, told, plan_of, Reads}
 use Rattle.sc_theory.specs.Prices.{Prices, Tables}
-use Rattle.sc_text.specs.TableLines.{IsRowInRange}
+use Rattle.sc_text.specs.TableLines.{IsTableInRange}
 use Rattle.sc_certificate.specs.Sizes.{AreSmallTables}
 use Rattle.sc_line.specs.Forms.{IsToldBy}
 use Rattle.sc_line.proofs.TextLaws as texts
@@ -74,7 +74,7 @@ pub told_in_range : (f : Format Certificate) (bytes : List ℕ) (v : Certificate
 told_in_range f bytes v e t = lawful_certificate.in_range t.lines v (subst (λ (g : Format Certificate). Reads g t.lines (told v)) e t.reads)
 
 -- tables of rows in range have entries in range
-pub small_tables : (n : ℕ) (tables : Tables) → AllByRecursion (IsRowInRange n) tables → AreSmallTables tables
+pub small_tables : (n : ℕ) (tables : Tables) → AllByRecursion (IsTableInRange n) tables → AreSmallTables tables
 small_tables n [] h = tt
 small_tables n (row ∷ tables) h = (h.0.entries_in_range, small_tables n tables h.1)
 

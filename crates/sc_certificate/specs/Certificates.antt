@@ -15,7 +15,7 @@ use Rattle.sc_text.specs.declared.limits.Limits.{Limits}
 use Rattle.sc_text.specs.declared.limits.TheConstants.{VERSION_1, MAX_COPIES, MAX_SIDES, MAX_PIVOTS}
 use Rattle.sc_text.specs.Sides.{IsSideInRange}
 use Rattle.sc_text.specs.ValueLines.{Quotient, a_value, IsValueInRange}
-use Rattle.sc_text.specs.TableLines.{IsRowInRange}
+use Rattle.sc_text.specs.TableLines.{IsTableInRange}
 use Rattle.sc_text.specs.Parts.{words_form, copies_form, sides_form, scale_form, bases_form, pairs_form, tables_form}
 use Rattle.sc_text.specs.Surfaces.{ending, uncounted, IsChainInRange}
 use Rattle.sc_certificate.specs.PivotLines.{a_pivot, IsPivotInRange}
@@ -149,6 +149,6 @@ pub record IsCertificateInRange (v : Certificate) : Type 0 where
   pub list : IsSmallList v.list
   pub counts : FitsCounts (length v.chain) (length (pairs v.chain)) v.list
   pub rows : length v.tables ≡ positions v.chain
-  pub tables : AllByRecursion (IsRowInRange (positions v.chain)) v.tables
+  pub tables : AllByRecursion (IsTableInRange (positions v.chain)) v.tables
   pub few_pivots : length v.journal ≤ MAX_PIVOTS
   pub journal : AllByRecursion (IsPivotInRange v.chain) v.journal

@@ -10,7 +10,7 @@ use Rattle.sc_line.specs.declared.fault.Kind.{Kind}
 use Rattle.sc_line.specs.declared.fault.Kind.TheVariants.{Form, Range}
 use Rattle.sc_chain.specs.declared.polygon.Pivot.{Pivot}
 use Rattle.sc_chain.specs.Polygons.{is_polygon}
-use Rattle.sc_line.specs.Lines.{Line, Field, spaced, fields, number_of, natural, natural_in}
+use Rattle.sc_line.specs.Lines.{Line, Field, spaced, fields, number_of, natural, natural_of_line}
 use Rattle.sc_line.specs.Faults.{NumberRange, named_fault}
 use Rattle.sc_line.specs.Forms.{LineKind}
 
@@ -33,19 +33,19 @@ abbrev pub naturals_of : List Field → List ℕ
 naturals_of fs = map (λ f. natural (number_of f)) fs
 
 -- the fault of fields that are due to be a row of the chain and a polygon
-abbrev pub pivot_fault : Chain → List Field → Option Kind
-pivot_fault c [] = Some Form
-pivot_fault c (row ∷ walk) =
+abbrev pub pivot_fields_fault : Chain → List Field → Option Kind
+pivot_fields_fault c [] = Some Form
+pivot_fields_fault c (row ∷ walk) =
     if is_some (number_of row) && are_naturals walk && is_polygon c (naturals_of walk)
     then (if option_map_or (is_below (rows c)) (number_of row) false then None else Some Range)
     else Some Form
 
-abbrev pub pivot_row : Chain → Line → Option Kind
-pivot_row c = named_fault (codes "pivot") (pivot_fault c)
+abbrev pub pivot_fault : Chain → Line → Option Kind
+pivot_fault c = named_fault (codes "pivot") (pivot_fields_fault c)
 
 -- the pivot in a line
-abbrev pub pivot_in : Line → Pivot
-pivot_in line = record { row = natural_in 1 line; polygon = naturals_of (drop 2 (fields line)) }
+abbrev pub pivot_of_line : Line → Pivot
+pivot_of_line line = record { row = natural_of_line 1 line; polygon = naturals_of (drop 2 (fields line)) }
 
 -- what a pivot may be
 pub record IsPivotInRange (c : Chain) (p : Pivot) : Type 0 where
@@ -54,4 +54,4 @@ pub record IsPivotInRange (c : Chain) (p : Pivot) : Type 0 where
 
 -- the line of a pivot of a chain
 abbrev pub a_pivot : Chain → LineKind Pivot
-a_pivot c = record { line = pivot_line; fault = pivot_row c; value = pivot_in }
+a_pivot c = record { line = pivot_line; fault = pivot_fault c; value = pivot_of_line }

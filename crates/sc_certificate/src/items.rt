@@ -5,7 +5,7 @@ ghost use Rattle.sc_theory.specs.Chains.{positions};
 ghost use Rattle.sc_theory.specs.Prices.{pairs};
 ghost use Rattle.sc_theory.specs.Columns.{pair_at};
 ghost use Rattle.sc_text.specs.PriceLines.{a_base, a_pair};
-ghost use Rattle.sc_text.specs.TableLines.{a_row};
+ghost use Rattle.sc_text.specs.TableLines.{a_table};
 
 use crate::head::Head;
 use crate::tables::Row;
@@ -79,7 +79,7 @@ impl NumberedItem for RowLines {
 
     type Value = Row;
 
-    ghost kind = { λ k head before. a_row (positions head.chain) (length before) };
+    ghost kind = { λ k head before. a_table (positions head.chain) (length before) };
 
     ghost count_of = { λ k head. positions head.chain };
 

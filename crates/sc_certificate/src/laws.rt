@@ -8,12 +8,12 @@ ghost use Rattle.sc_certificate.specs.CertificateRead.{certificate_of, IsCertifi
 ghost use Rattle.sc_theory.specs.Chains.{Chain};
 ghost use Rattle.sc_line.specs.Faults.{IsFaultless};
 ghost use Rattle.sc_line.specs.Formats.{IsLineKind};
-ghost use Rattle.sc_certificate.specs.PivotLines.{pivot_row, pivot_in, pivot_line, IsPivotInRange};
+ghost use Rattle.sc_certificate.specs.PivotLines.{pivot_fault, pivot_of_line, pivot_line, IsPivotInRange};
 ghost use Rattle.sc_certificate.specs.Certificates.{Certificate, certificate_text, certificate_plan, IsCertificateInRange};
 
 /// The lines of pivots without a fault are the lines of the pivots in range, and tell them.
 pub fn pivot_lines_are_a_kind()
-    ensures { (c : Chain) → IsLineKind (pivot_row c) pivot_in pivot_line (IsPivotInRange c) }
+    ensures { (c : Chain) → IsLineKind (pivot_fault c) pivot_of_line pivot_line (IsPivotInRange c) }
 {}
 
 /// The text of a certificate in its ranges has no fault at any line, so it is read again.

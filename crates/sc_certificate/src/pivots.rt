@@ -65,7 +65,7 @@ pub fn pivot_line(
 ) -> Result<Pivot, LineFault>
     requires { pairs.now ≡ pairs_of chain.now }
     ensures ok { IfOk result (λ p. (line.now ≡ lines.pivot_line p) × lines.IsPivotInRange chain.now p) }
-    ensures err { IfErr result (IsFault (lines.pivot_row chain.now line.now)) }
+    ensures err { IfErr result (IsFault (lines.pivot_fault chain.now line.now)) }
 {
     let row_count = pairs.count() + chain.words();
     let mut fields = Fields::of(line);

@@ -1,6 +1,6 @@
 -- Laws of a number with the lines that it counts, and of blocks of lines.
 use Rattle.std.proofs.Common.{◌≡◌, ℕ, zero, suc, ◌+◌, ◌*◌, ◌≤◌, true, List, [], ◌∷◌, ◌++◌, length, refl, sym, ap, subst, ◌∙◌, append_assoc, append-nil, arith}
-use Rattle.sc_line.specs.Lines.{Line, count_line, count_in, lacks, AllLack}
+use Rattle.sc_line.specs.Lines.{Line, count_line, count_of_line, lacks, AllLack}
 use Rattle.sc_line.specs.Formats.{Format, told, Reads, IsShort}
 use Rattle.sc_line.proofs.NumberLaws.{IsCountInRange, count_is_kind}
 use Rattle.sc_line.specs.Forms.{IsLawful}
@@ -32,9 +32,9 @@ module _ {V : Type 0} (name : List ℕ) (low high : ℕ) (count : V → ℕ) (li
   headed_are named law counts (l ∷ ls) v r =
       let k = count_is_kind name low high named in
       let range = k.in_range l r.0 in
-      let more = law (count_in l) range in
+      let more = law (count_of_line l) range in
       let within = more.in_range ls v r.1 in
-      let n_is = counts (count_in l) v within in
+      let n_is = counts (count_of_line l) v within in
       record {
         are = (λ i. (k.line_is l r.0 ∙ ap (count_line name) (sym n_is)) i ∷ (more.lines_are ls v r.1 ∙ ap (λ (n : ℕ). lines n v) (sym n_is)) i);
         in_range = record { counted = subst (IsCountInRange low high) (sym n_is) range; in_range = subst (λ (n : ℕ). InV n v) (sym n_is) within };
@@ -53,7 +53,7 @@ module _ {V : Type 0} (name : List ℕ) (low high : ℕ) (count : V → ℕ) (li
         lines_are = λ ls v r. (headed_are named law counts ls v r).are;
         in_range = λ ls v r. (headed_are named law counts ls v r).in_range;
         no_feed = λ v h. (unended (count v), (law (count v) h.counted).no_feed v h.in_range);
-        short = λ line good. (law (count_in line) (k.in_range line good)).short;
+        short = λ line good. (law (count_of_line line) (k.in_range line good)).short;
       }
 
 -- ---- blocks

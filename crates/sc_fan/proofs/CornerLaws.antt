@@ -15,7 +15,7 @@ use Rattle.sc_text.proofs.ValueLaws.{halves-quotient_text, good_fraction, fracti
 use Rattle.sc_text.proofs.FeedLaws.{lacks-spaced, lacks-number}
 use Rattle.sc_cone.specs.Fans.{Corner as PlaneCorner}
 use Rattle.sc_fan.specs.declared.limits.TheConstants.{MAX_DIRECTION, MAX_VALUE}
-use Rattle.sc_fan.specs.Corners.{corner_line, is_direction, or_range, corner_fault, corner_value_fault, corner_fields_fault, corner_row, corner_in, IsCornerInRange}
+use Rattle.sc_fan.specs.Corners.{corner_line, is_direction, or_range, corner_numbers_fault, corner_value_fault, corner_fields_fault, corner_fault, corner_of_line, IsCornerInRange}
 
 -- ---- the direction
 
@@ -56,20 +56,20 @@ fields-corner_line c =
     fields-spaced (codes "corner") (spelling c.direction.s ∷ spelling c.direction.t ∷ quotient_text c.value.0 c.value.1 ∷ [])
     (refl, (lacks-spelling 32 c.direction.s (omega arith), (lacks-spelling 32 c.direction.t (omega arith), (lacks-append 32 (spelling c.value.0) (47 ∷ spelling c.value.1) (lacks-spelling 32 c.value.0 (omega arith)) (lacks-spelling 32 c.value.1 (omega arith)), tt))))
 
-good_corner : (c : PlaneCorner) → IsCornerInRange c → corner_row (corner_line c) ≡ None
+good_corner : (c : PlaneCorner) → IsCornerInRange c → corner_fault (corner_line c) ≡ None
 good_corner c h =
     let direction : is_direction c.direction.s c.direction.t ≡ true = direction_test c.direction.s c.direction.t (record { s_low = h.s_low; s_high = h.s_high; t_low = h.t_low; t_high = h.t_high; somewhere = h.somewhere }) in
     named_is (codes "corner") corner_fields_fault (corner_line c) _ (fields-corner_line c)
     ∙ rw (number_of-spelling c.direction.s, number_of-spelling c.direction.t, direction) (good_fraction MAX_VALUE c.value h.value)
 
-corner_in-corner_line : (c : PlaneCorner) → corner_in (corner_line c) ≡ c
-corner_in-corner_line c = rw (fields-corner_line c, halves-quotient_text c.value.0 c.value.1, number_of-spelling c.direction.s, number_of-spelling c.direction.t, number_of-spelling c.value.0, number_of-spelling c.value.1) refl
+corner_of_line-corner_line : (c : PlaneCorner) → corner_of_line (corner_line c) ≡ c
+corner_of_line-corner_line c = rw (fields-corner_line c, halves-quotient_text c.value.0 c.value.1, number_of-spelling c.direction.s, number_of-spelling c.direction.t, number_of-spelling c.value.0, number_of-spelling c.value.1) refl
 
 no_or_range : (o : Option Kind) → or_range o ≡ None → ⊥
 no_or_range None h = none-some Range (sym h)
 no_or_range (Some k) h = none-some k (sym h)
 
-corner_from : (line : Line) (f g v : Field) (s t : Option ℤ) → fields line ≡ codes "corner" ∷ f ∷ g ∷ v ∷ [] → number_of f ≡ s → number_of g ≡ t → corner_fault s t (corner_value_fault v) ≡ None → IsLineOf corner_line IsCornerInRange line
+corner_from : (line : Line) (f g v : Field) (s t : Option ℤ) → fields line ≡ codes "corner" ∷ f ∷ g ∷ v ∷ [] → number_of f ≡ s → number_of g ≡ t → corner_numbers_fault s t (corner_value_fault v) ≡ None → IsLineOf corner_line IsCornerInRange line
 corner_from line f g v None t e m n h = absurd (none-some Form (sym h))
 corner_from line f g v (Some s) None e m n h = absurd (none-some Form (sym h))
 corner_from line f g v (Some s) (Some t) e m n h =
@@ -92,14 +92,14 @@ corner_of_fields line (f ∷ g ∷ []) e h = absurd (none-some Form (sym h))
 corner_of_fields line (f ∷ g ∷ v ∷ []) e h = corner_from line f g v (number_of f) (number_of g) e refl refl h
 corner_of_fields line (f ∷ g ∷ v ∷ w ∷ fs) e h = absurd (none-some Form (sym h))
 
-corner_inverse : (line : Line) → corner_row line ≡ None → IsLineOf corner_line IsCornerInRange line
+corner_inverse : (line : Line) → corner_fault line ≡ None → IsLineOf corner_line IsCornerInRange line
 corner_inverse line h =
     let named = named_inverse (codes "corner") corner_fields_fault line h in
     corner_of_fields line named.rest named.fields named.good
 
 -- the lines of corners are a kind of line: without a fault exactly where they are of a corner in its range
-pub corner_kind : IsLineKind corner_row corner_in corner_line IsCornerInRange
-corner_kind = kind_from corner_row corner_in corner_line IsCornerInRange good_corner (λ c in_range. corner_in-corner_line c) corner_inverse
+pub corner_kind : IsLineKind corner_fault corner_of_line corner_line IsCornerInRange
+corner_kind = kind_from corner_fault corner_of_line corner_line IsCornerInRange good_corner (λ c in_range. corner_of_line-corner_line c) corner_inverse
 
 pub lacks-corner_line : (c : PlaneCorner) → lacks 10 (corner_line c) ≡ true
 lacks-corner_line c =
@@ -109,11 +109,11 @@ lacks-corner_line c =
 -- ---- the fault of a line by its parts
 
 -- a line with two numbers that are no direction has the fault `Range`
-pub direction_outside : (line : Line) (f g v : Field) (s t : ℤ) → fields line ≡ codes "corner" ∷ f ∷ g ∷ v ∷ [] → number_of f ≡ Some s → number_of g ≡ Some t → corner_value_fault v ≡ None → is_direction s t ≡ false → corner_row line ≡ Some Range
+pub direction_outside : (line : Line) (f g v : Field) (s t : ℤ) → fields line ≡ codes "corner" ∷ f ∷ g ∷ v ∷ [] → number_of f ≡ Some s → number_of g ≡ Some t → corner_value_fault v ≡ None → is_direction s t ≡ false → corner_fault line ≡ Some Range
 direction_outside line f g v s t e m n good outside = named_is (codes "corner") corner_fields_fault line _ e ∙ rw (m, n, outside, good) refl
 
 -- a line with two numbers has the fault of its value, where that has one
-pub value_bad : (line : Line) (f g v : Field) (s t : ℤ) (k : Kind) → fields line ≡ codes "corner" ∷ f ∷ g ∷ v ∷ [] → number_of f ≡ Some s → number_of g ≡ Some t → corner_value_fault v ≡ Some k → corner_row line ≡ Some k
+pub value_bad : (line : Line) (f g v : Field) (s t : ℤ) (k : Kind) → fields line ≡ codes "corner" ∷ f ∷ g ∷ v ∷ [] → number_of f ≡ Some s → number_of g ≡ Some t → corner_value_fault v ≡ Some k → corner_fault line ≡ Some k
 value_bad line f g v s t k e m n bad = elim (cases_Bool (is_direction s t)) [
   | inl inside ↦ named_is (codes "corner") corner_fields_fault line _ e ∙ rw (m, n, inside) bad
   | inr outside ↦ named_is (codes "corner") corner_fields_fault line _ e ∙ rw (m, n, outside, bad) refl

@@ -248,8 +248,8 @@ list_in_range words ps s t u v d base pair scale bases pairs = record { scale = 
 
 -- ---- corners
 
-abbrev pub corner_rows : ℕ → Format (List PlaneCorner)
-corner_rows n = many_due (λ (before : List PlaneCorner). a_corner) n []
+abbrev pub corner_faults : ℕ → Format (List PlaneCorner)
+corner_faults n = many_due (λ (before : List PlaneCorner). a_corner) n []
 
 abbrev pub corner_count : LineKind ℕ
 corner_count = count_kind (codes "corners") MIN_CORNERS MAX_CORNERS
@@ -257,14 +257,14 @@ corner_count = count_kind (codes "corners") MIN_CORNERS MAX_CORNERS
 module _ (s : LinesLeft) where
   -- the corners fail where their count or a line of them fails, and else are taken
   pub corner_count_stops : (e : TextFault) → Fails e (taken (one_due corner_count None) s) → Fails e (taken corners_due s)
-  corner_count_stops e h = fails_then (one_due corner_count None) corner_rows s e h
+  corner_count_stops e h = fails_then (one_due corner_count None) corner_faults s e h
 
   module _ (n : ℕ) (t : LinesLeft) (counted : taken (one_due corner_count None) s ≡ Ok (n, t)) where
-    pub corner_stops : (e : TextFault) → Fails e (taken (corner_rows n) t) → Fails e (taken corners_due s)
-    corner_stops e h = subst (Fails e) (sym (onward (one_due corner_count None) corner_rows s t n counted)) h
+    pub corner_stops : (e : TextFault) → Fails e (taken (corner_faults n) t) → Fails e (taken corners_due s)
+    corner_stops e h = subst (Fails e) (sym (onward (one_due corner_count None) corner_faults s t n counted)) h
 
-    pub corners_taken : (cs : List PlaneCorner) (u : LinesLeft) → taken (corner_rows n) t ≡ Ok (cs, u) → taken corners_due s ≡ Ok (cs, u)
-    corners_taken cs u h = onward (one_due corner_count None) corner_rows s t n counted ∙ h
+    pub corners_taken : (cs : List PlaneCorner) (u : LinesLeft) → taken (corner_faults n) t ≡ Ok (cs, u) → taken corners_due s ≡ Ok (cs, u)
+    corners_taken cs u h = onward (one_due corner_count None) corner_faults s t n counted ∙ h
 
 -- corners that were taken are in their range, and so many as a fan may have
 pub corners_in_range : (s t : LinesLeft) (corners : List PlaneCorner) → taken corners_due s ≡ Ok (corners, t) → AreCorners corners

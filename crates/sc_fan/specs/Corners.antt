@@ -1,6 +1,5 @@
 -- The line of a corner.
 use Rattle.std.specs.Prelude.{ℕ, ◌+◌, ◌<◌, nat_lt, Bool, ◌&&◌, List, [], ◌∷◌, get_or, Option, Some, None, if◌then◌else◌, ℤ, pos, neg_ℤ, ◌≤ℤ◌, codes, unsigned_abs}
-use Rattle.std.specs.Option.{unwrap_or}
 use Rattle.sc_whole.specs.Spelling.{spelling}
 use Rattle.sc_fraction.specs.Quotient.{quotient_text}
 use Rattle.sc_line.specs.declared.fault.Kind.{Kind}
@@ -8,7 +7,8 @@ use Rattle.sc_line.specs.declared.fault.Kind.TheVariants.{Form, Range}
 use Rattle.sc_line.specs.Lines.{Line, Field, spaced, fields, number_of}
 use Rattle.sc_line.specs.Faults.{from_to, named_fault}
 use Rattle.sc_line.specs.Forms.{LineKind}
-use Rattle.sc_text.specs.ValueLines.{Quotient, quotient_of, halves, fraction_up_to_fault, IsFractionUpTo}
+use Rattle.sc_text.specs.PriceLines.{number_of_line}
+use Rattle.sc_text.specs.ValueLines.{Quotient, quotient_of, quotient_of_field, fraction_up_to_fault, IsFractionUpTo}
 use Rattle.sc_fan.specs.declared.limits.TheConstants.{MAX_DIRECTION, MAX_VALUE}
 use Rattle.sc_cone.specs.Fans.{Corner as PlaneCorner}
 use Rattle.sc_fan.specs.declared.corner.Corner.{Corner}
@@ -31,10 +31,10 @@ or_range None = Some Range
 or_range (Some kind) = Some kind
 
 -- the fault of a direction and a fraction
-abbrev pub corner_fault : Option ℤ → Option ℤ → Option Kind → Option Kind
-corner_fault (Some s) (Some t) fault = if is_direction s t then fault else or_range fault
-corner_fault (Some s) None fault = Some Form
-corner_fault None t fault = Some Form
+abbrev pub corner_numbers_fault : Option ℤ → Option ℤ → Option Kind → Option Kind
+corner_numbers_fault (Some s) (Some t) fault = if is_direction s t then fault else or_range fault
+corner_numbers_fault (Some s) None fault = Some Form
+corner_numbers_fault None t fault = Some Form
 
 -- the fault of a field that is due to be the value of a corner
 abbrev pub corner_value_fault : Field → Option Kind
@@ -44,21 +44,18 @@ abbrev pub corner_fields_fault : List Field → Option Kind
 corner_fields_fault [] = Some Form
 corner_fields_fault (s ∷ []) = Some Form
 corner_fields_fault (s ∷ t ∷ []) = Some Form
-corner_fields_fault (s ∷ t ∷ f ∷ []) = corner_fault (number_of s) (number_of t) (corner_value_fault f)
+corner_fields_fault (s ∷ t ∷ f ∷ []) = corner_numbers_fault (number_of s) (number_of t) (corner_value_fault f)
 corner_fields_fault (s ∷ t ∷ f ∷ g ∷ fs) = Some Form
 
-abbrev pub corner_row : Line → Option Kind
-corner_row = named_fault (codes "corner") corner_fields_fault
+abbrev pub corner_fault : Line → Option Kind
+corner_fault = named_fault (codes "corner") corner_fields_fault
 
 -- the corner in a line
-abbrev pub whole_in : ℕ → Line → ℤ
-whole_in i line = unwrap_or (number_of (get_or (fields line) i [])) (pos 0)
-
-abbrev pub half_in : ℕ → Line → ℤ
-half_in i line = unwrap_or (number_of (get_or (halves (get_or (fields line) 3 [])) i [])) (pos 0)
-
-abbrev pub corner_in : Line → PlaneCorner
-corner_in line = record { direction = record { s = whole_in 1 line; t = whole_in 2 line }; value = (half_in 0 line, half_in 1 line) }
+abbrev pub corner_of_line : Line → PlaneCorner
+corner_of_line line = record {
+  direction = record { s = number_of_line 1 line; t = number_of_line 2 line };
+  value = quotient_of_field (get_or (fields line) 3 []);
+}
 
 -- what the value of a corner may be
 abbrev pub IsCornerValue : Quotient → Type 0
@@ -74,4 +71,4 @@ pub record IsCornerInRange (c : PlaneCorner) : Type 0 where
   pub value : IsCornerValue c.value
 
 abbrev pub a_corner : LineKind PlaneCorner
-a_corner = record { line = corner_line; fault = corner_row; value = corner_in }
+a_corner = record { line = corner_line; fault = corner_fault; value = corner_of_line }

@@ -33,7 +33,7 @@ fn direction_of(s: Option<i128>, t: Option<i128>) -> Result<Direction, Kind>
 /// The corner of a line `corner S T NUM/DEN`.
 pub fn corner_line(line: &[u8]) -> Result<Corner, Kind>
     ensures ok { IfOk result (λ c. (line.now ≡ lines.corner_line (corner_said c)) × IsCornerInRange (corner_said c)) }
-    ensures err { IfErr result (λ kind. lines.corner_row line.now ≡ Some kind) }
+    ensures err { IfErr result (λ kind. lines.corner_fault line.now ≡ Some kind) }
 {
     let mut fields = Fields::of(line);
     fields.name(b"corner")?;

@@ -5,7 +5,7 @@ ghost use Rattle.sc_line.specs.declared.fault.TextFault.{TextFault};
 ghost use Rattle.sc_line.specs.declared.fault.TextFault.TheVariants.{Memory};
 ghost use Rattle.sc_line.specs.Faults.{IsFaultless};
 ghost use Rattle.sc_line.specs.Formats.{IsLineKind};
-ghost use Rattle.sc_fan.specs.Corners.{corner_row, corner_in, corner_line, IsCornerInRange};
+ghost use Rattle.sc_fan.specs.Corners.{corner_fault, corner_of_line, corner_line, IsCornerInRange};
 ghost use Rattle.sc_fan.specs.declared.fan.Fan.{Fan};
 ghost use Rattle.sc_fan.specs.Fans.{FanSaid, fan_text, fan_plan, IsFanInRange};
 ghost use Rattle.sc_fan.specs.FanRead.{fan_said, plane_fan, IsJoined};
@@ -13,7 +13,7 @@ ghost use Rattle.sc_fan.specs.FanReader.{IsFanRead};
 
 /// The lines of corners without a fault are the lines of the corners in range, and tell them.
 pub fn corner_lines_are_a_kind()
-    ensures { IsLineKind corner_row corner_in corner_line IsCornerInRange }
+    ensures { IsLineKind corner_fault corner_of_line corner_line IsCornerInRange }
 {}
 
 /// The text of a fan in its ranges has no fault at any line, so it is read again.

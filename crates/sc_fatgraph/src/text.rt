@@ -8,7 +8,7 @@ ghost use Rattle.sc_chain.specs.Faults.{IsSmallChain};
 ghost use Rattle.sc_line.specs.declared.fault.Kind.{Kind};
 ghost use Rattle.sc_line.specs.declared.fault.TextFault.TheVariants as text_faults;
 ghost use Rattle.sc_line.specs.Faults.{IsFaultless, IsFaultOf, IsFirstFault};
-ghost use Rattle.sc_text.specs.Surfaces.{surface_text, surface_table, IsSurfaceInRange};
+ghost use Rattle.sc_text.specs.Surfaces.{surface_text, surface_plan, IsSurfaceInRange};
 ghost use Rattle.sc_line.specs.Printing.{AppendsPart};
 ghost use Rattle.sc_fatgraph.specs.Texts.{text_of_surface, HaveWeights};
 
@@ -35,11 +35,11 @@ pub fn read_surface(alloc: Global, bytes: &[u8]) -> Result<SurfaceText, TextFaul
     // What is read is the surface of which the bytes are the text.
     ensures text { IfOk result (λ s. bytes.now ≡ surface_text s.chain s.n s.sides) }
     ensures in_range { IfOk result (λ s. IsSurfaceInRange s.chain s.n s.sides) }
-    ensures faultless { OnOk result (IsFaultless surface_table bytes.now) }
+    ensures faultless { OnOk result (IsFaultless surface_plan bytes.now) }
 
     // The fault that is answered is the first one, and the first fault is answered, unless memory runs out.
-    ensures malformed { IfErr result (IsFaultOf surface_table bytes.now) }
-    ensures only { (line : ℕ) (kind : Kind) → IsFirstFault surface_table bytes.now line kind
+    ensures malformed { IfErr result (IsFaultOf surface_plan bytes.now) }
+    ensures only { (line : ℕ) (kind : Kind) → IsFirstFault surface_plan bytes.now line kind
         → IsErrAnd result (λ e. (e ≡ text_faults.Malformed line kind) ⊎ (e ≡ text_faults.Memory)) }
 
     // The text of a surface is read as that surface, unless memory runs out.

@@ -1,7 +1,7 @@
 -- Laws of forms: what they are made of by lawful forms is lawful.
 use Rattle.std.proofs.Common.{◌≡◌, ℕ, zero, suc, ◌+◌, ◌-◌, ◌≤◌, true, false, List, [], ◌∷◌, ◌++◌, map, length, None, refl, sym, ap, subst, ◌∙◌, append_assoc, append-nil, arith}
 use Rattle.std.specs.List.{AllByRecursion}
-use Rattle.sc_line.specs.Lines.{Line, count_line, count_in, lacks, AllLack}
+use Rattle.sc_line.specs.Lines.{Line, count_line, count_of_line, lacks, AllLack}
 use Rattle.sc_line.specs.Formats.{Format, told, a_line, Reads, IsShort, IsLineKind}
 use Rattle.sc_line.proofs.NumberLaws.{IsCountInRange, good_literal, literal_inverse, count_is_kind}
 use Rattle.sc_line.specs.Forms.{LineKind, literal_due, one_due, lines_after, more_due, many_due, counted_from, Both, and_also, and_then, both_due, IsLawful}
@@ -277,7 +277,7 @@ module _ {A : Type 0} (kind : List A → LineKind A) (InRange : List A → A →
   counted_are name most named (l ∷ ls) xs r =
       let k = count_is_kind name 0 most named in
       let few = k.in_range l r.0 in
-      let many = lawful_many (count_in l) (count_in l) (omega arith) in
+      let many = lawful_many (count_of_line l) (count_of_line l) (omega arith) in
       let items = many.in_range ls xs r.1 in (
         (λ i. (k.line_is l r.0 ∙ ap (count_line name) (sym items.count)) i ∷ many.lines_are ls xs r.1 i),
         record { few = subst (λ (n : ℕ). n ≤ most) (sym items.count) few.high_end; in_range = items.in_range },
@@ -297,7 +297,7 @@ module _ {A : Type 0} (kind : List A → LineKind A) (InRange : List A → A →
         lines_are = λ ls xs r. (counted_are name most named ls xs r).0;
         in_range = λ ls xs r. (counted_are name most named ls xs r).1;
         no_feed = λ xs h. (unended (length xs), lack_after [] xs);
-        short = λ line good. (lawful_many (count_in line) most (k.in_range line good).high_end).short;
+        short = λ line good. (lawful_many (count_of_line line) most (k.in_range line good).high_end).short;
       }
 
 -- ---- so many lines of one kind

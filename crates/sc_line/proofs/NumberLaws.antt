@@ -11,7 +11,7 @@ use Rattle.std.proofs.lemmas.Slice.Eq.{bytes_eq-Decides}
 use Rattle.sc_whole.specs.Spelling.{spelling}
 use Rattle.sc_line.specs.declared.fault.Kind.{Kind}
 use Rattle.sc_line.specs.declared.fault.Kind.TheVariants.{Form, Range}
-use Rattle.sc_line.specs.Lines.{Line, Field, fields, spaced, number_of, count_line, count_in, lacks}
+use Rattle.sc_line.specs.Lines.{Line, Field, fields, spaced, number_of, count_line, count_of_line, lacks}
 use Rattle.sc_line.specs.Faults.{NumberRange, between, are_numbers, are_in_range, numbers_fault, literal_fault, is_named, named_fault, numbers_line_fault}
 use Rattle.sc_line.specs.Formats.{IsLineKind}
 use Rattle.sc_line.specs.Forms.{Tells, count_kind}
@@ -182,9 +182,9 @@ kind_from fault value line_for InRange good value_is inverse =
     }
 
 -- the lines of a name and a count in a range are a kind of lines, whose value is the count
-pub count_is_kind : (name : List ℕ) (low high : ℕ) → lacks 32 name ≡ true → IsLineKind (numbers_line_fault name (between low high ∷ [])) count_in (count_line name) (IsCountInRange low high)
+pub count_is_kind : (name : List ℕ) (low high : ℕ) → lacks 32 name ≡ true → IsLineKind (numbers_line_fault name (between low high ∷ [])) count_of_line (count_line name) (IsCountInRange low high)
 count_is_kind name low high h =
-    kind_from _ count_in (count_line name) (IsCountInRange low high)
+    kind_from _ count_of_line (count_line name) (IsCountInRange low high)
     (λ n in_range. (tells_count name low high n (count_line name n) (fields-count_line name n h) in_range.low_end in_range.high_end).good)
     (λ n in_range. (tells_count name low high n (count_line name n) (fields-count_line name n h) in_range.low_end in_range.high_end).value_is)
     (λ line good. let c = count_inverse name low high line good in record {

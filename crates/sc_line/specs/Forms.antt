@@ -2,7 +2,7 @@
 use Rattle.std.specs.Prelude.{◌≡◌, ℕ, zero, suc, ◌-◌, Bool, true, false, List, [], ◌∷◌, ◌++◌, length, Option, Some, None, Result, IfOk, IfErr}
 use Rattle.sc_line.specs.declared.fault.Kind.{Kind}
 use Rattle.sc_line.specs.declared.fault.TextFault.{TextFault}
-use Rattle.sc_line.specs.Lines.{Line, text_of, count_line, count_in, AllLack}
+use Rattle.sc_line.specs.Lines.{Line, text_of, count_line, count_of_line, AllLack}
 use Rattle.sc_line.specs.Faults.{Plan, between, literal_fault, numbers_line_fault, IsFaultOf}
 use Rattle.sc_line.specs.Formats.{Format, told, a_line, Reads, IsShort}
 
@@ -42,7 +42,7 @@ one kind = record { lines = λ x. kind.line x ∷ []; due = one_due kind }
 
 -- the lines of a name and a number in a range
 abbrev pub count_kind : List ℕ → ℕ → ℕ → LineKind ℕ
-count_kind name low high = record { line = count_line name; fault = numbers_line_fault name (between low high ∷ []); value = count_in }
+count_kind name low high = record { line = count_line name; fault = numbers_line_fault name (between low high ∷ []); value = count_of_line }
 
 -- ---- so many lines, the kind of each by the values before it
 
@@ -70,7 +70,7 @@ pub record Counted (A : Type 0) : Type 0 where
   pub items : List A
 
 abbrev pub counted_from : {A : Type 0} → List ℕ → ℕ → (List A → LineKind A) → Option ℕ → List A → Format (List A)
-counted_from name most kind None items = a_line (numbers_line_fault name (between 0 most ∷ [])) (λ line. many_due kind (count_in line) items)
+counted_from name most kind None items = a_line (numbers_line_fault name (between 0 most ∷ [])) (λ line. many_due kind (count_of_line line) items)
 counted_from name most kind (Some n) items = many_due kind n items
 
 abbrev pub counted : {A : Type 0} → List ℕ → ℕ → (List A → LineKind A) → Form (Counted A) (List A)

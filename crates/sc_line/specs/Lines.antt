@@ -89,11 +89,11 @@ natural (Some (negsuc n)) = 0
 natural None = 0
 
 -- the natural number in a field of a line, and 0 where there is none
-abbrev pub natural_in : ℕ → Line → ℕ
-natural_in i line = natural (number_of (get_or (fields line) i []))
+abbrev pub natural_of_line : ℕ → Line → ℕ
+natural_of_line i line = natural (number_of (get_or (fields line) i []))
 
-abbrev pub count_in : Line → ℕ
-count_in = natural_in 1
+abbrev pub count_of_line : Line → ℕ
+count_of_line = natural_of_line 1
 
 -- ---- bytes that don't occur
 

@@ -16,7 +16,7 @@ use Rattle.sc_chain.specs.declared.polygon.Pivot.{Pivot}
 use Rattle.sc_fraction.specs.declared.frac.Frac.{Frac}
 use Rattle.sc_fraction.specs.Frac.{numerator, denominator, IsQuotient}
 use Rattle.sc_text.specs.declared.limits.TheConstants.{MAX_PIVOTS}
-use Rattle.sc_text.specs.TableLines.{IsRowInRange}
+use Rattle.sc_text.specs.TableLines.{IsTableInRange}
 use Rattle.sc_text.specs.Words.{IsWordInRange}
 use Rattle.sc_text.specs.Surfaces.{IsChainInRange}
 use Rattle.sc_fatgraph.specs.Surfaces.{Surface, IsSurface}
@@ -70,7 +70,7 @@ weights_at [] all w inside = absurd (omega arith)
 weights_at (v ∷ c) all zero inside = (all.0.low, all.0.high)
 weights_at (v ∷ c) all (suc w) inside = weights_at c all.1 w (omega arith)
 
-rows_in_range : (n : ℕ) (tables : Tables) → AllByRecursion (λ row. length row ≡ n) tables → AreSmallTables tables → AllByRecursion (IsRowInRange n) tables
+rows_in_range : (n : ℕ) (tables : Tables) → AllByRecursion (λ row. length row ≡ n) tables → AreSmallTables tables → AllByRecursion (IsTableInRange n) tables
 rows_in_range n [] sizes small = tt
 rows_in_range n (row ∷ tables) sizes small = (record { count_is = sizes.0; entries_in_range = small.0 }, rows_in_range n tables sizes.1 small.1)
 
@@ -113,7 +113,7 @@ certificate_in_range c f v list tables journal small in_range over surface value
       list = list_small;
       counts = subst (λ (d : Chain). FitsCounts (length d) (length (pairs d)) list) (sym over) counts;
       rows = subst (λ (d : Chain). length tables ≡ positions d) (sym over) sizes.rows;
-      tables = subst (λ (d : Chain). AllByRecursion (IsRowInRange (positions d)) tables) (sym over) (rows_in_range (positions c) tables sizes.entries tables_small);
+      tables = subst (λ (d : Chain). AllByRecursion (IsTableInRange (positions d)) tables) (sym over) (rows_in_range (positions c) tables sizes.entries tables_small);
       few_pivots = few;
       journal = subst (λ (d : Chain). AllByRecursion (IsPivotInRange d) journal) (sym over) pivots;
     }

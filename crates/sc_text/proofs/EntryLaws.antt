@@ -1,4 +1,4 @@
--- Laws of the entries in a row of a distance table.
+-- Laws of the entries of a distance table.
 use Rattle.std.proofs.Common.{◌≡◌, ℕ, ◌+◌, Bool, true, false, ◌&&◌, List, [], ◌∷◌, ◌++◌, map, length, Option, Some, None, is_some, codes, ℤ, neg_ℤ, refl, sym, ap, append_assoc, ◌∙◌, arith, inl, inr}
 use Rattle.std.specs.List.{list_all, AllByRecursion}
 use Rattle.std.specs.Option.{option_map_or}
@@ -39,7 +39,7 @@ pub entry_of_field : (e : Entry) → entry_of (entry_field e) ≡ e
 entry_of_field None = refl
 entry_of_field (Some z) = rw (no_dash z, number_of-spelling z) refl
 
--- the same of the fields of a row
+-- the same of the fields of a table
 pub fields_are_entries : (es : List Entry) → list_all is_entry (map entry_field es) ≡ true
 fields_are_entries [] = refl
 fields_are_entries (e ∷ es) = and_from _ _ (is_entry_field e) (fields_are_entries es)
@@ -105,28 +105,28 @@ entries_from_tests (f ∷ fs) h k =
       in_range = (first.in_range, rest.in_range);
     }
 
--- these fields are those of the entries of a row, in range
-pub record AreRead (fs : List Field) (row : List Entry) : Type 0 where
-  pub are : fs ≡ map entry_field row
-  pub in_range : AllByRecursion IsEntryInRange row
+-- these fields are those of the entries of a table, in range
+pub record AreRead (fs : List Field) (table : List Entry) : Type 0 where
+  pub are : fs ≡ map entry_field table
+  pub in_range : AllByRecursion IsEntryInRange table
 
 -- ---- the fields that a reader has passed, and their entries
 
--- so many of the fields are entries, and are in range or not; where all are, the row has them
-pub record HasEntries (all left : List Field) (count : ℕ) (in_range : Bool) (row : List Entry) : Type 0 where
+-- so many of the fields are entries, and are in range or not; where all are, the table has them
+pub record HasEntries (all left : List Field) (count : ℕ) (in_range : Bool) (table : List Entry) : Type 0 where
   pub passed : List Field
   pub cut : all ≡ passed ++ left
   pub many : length passed ≡ count
   pub are_entries : list_all is_entry passed ≡ true
   pub are_in_range : list_all is_entry_in_range passed ≡ in_range
-  pub row_is : in_range ≡ true → AreRead passed row
+  pub table_is : in_range ≡ true → AreRead passed table
 
 list_all_push : (p : Field → Bool) (fs : List Field) (f : Field) (before at : Bool) → list_all p fs ≡ before → p f ≡ at → list_all p (fs ++ f ∷ []) ≡ (before && at)
 list_all_push p fs f before at h k = list_all-append p fs (f ∷ []) ∙ (λ i. h i && (k i && true)) ∙ ap (λ (b : Bool). before && b) (and-true at)
 
--- a reader that passes the field of an entry in range has one entry more in its row
-pub one_more : (all left : List Field) (count : ℕ) (in_range : Bool) (row : List Entry) (f : Field) (e : Entry) → HasEntries all (f ∷ left) count in_range row → f ≡ entry_field e → IsEntryInRange e → HasEntries all left (count + 1) in_range (row ++ e ∷ [])
-one_more all left count in_range row f e h is range =
+-- a reader that passes the field of an entry in range has one entry more in its table
+pub one_more : (all left : List Field) (count : ℕ) (in_range : Bool) (table : List Entry) (f : Field) (e : Entry) → HasEntries all (f ∷ left) count in_range table → f ≡ entry_field e → IsEntryInRange e → HasEntries all left (count + 1) in_range (table ++ e ∷ [])
+one_more all left count in_range table f e h is range =
     let form : is_entry f ≡ true = ap is_entry is ∙ is_entry_field e in
     let ranged : is_entry_in_range f ≡ true = ap is_entry_in_range is ∙ entry_in_range e range in record {
       passed = h.passed ++ f ∷ [];
@@ -134,9 +134,9 @@ one_more all left count in_range row f e h is range =
       many = length_push h.passed f ∙ ap (λ (n : ℕ). n + 1) h.many;
       are_entries = list_all_push is_entry h.passed f true true h.are_entries form;
       are_in_range = list_all_push is_entry_in_range h.passed f in_range true h.are_in_range ranged ∙ and-true in_range;
-      row_is = λ p. record {
-        are = (λ i. (h.row_is p).are i ++ is i ∷ []) ∙ sym (map_push entry_field row e);
-        in_range = All_push IsEntryInRange row e (h.row_is p).in_range range;
+      table_is = λ p. record {
+        are = (λ i. (h.table_is p).are i ++ is i ∷ []) ∙ sym (map_push entry_field table e);
+        in_range = All_push IsEntryInRange table e (h.table_is p).in_range range;
       };
     }
 
@@ -158,13 +158,13 @@ out_of_range f h =
     ]
 
 -- a reader that passes an entry out of range has one field more, and not all in range
-pub one_wide : (all left : List Field) (count : ℕ) (in_range : Bool) (row : List Entry) (f : Field) → HasEntries all (f ∷ left) count in_range row → entry_fault f ≡ Some Range → HasEntries all left (count + 1) false row
-one_wide all left count in_range row f h fault =
+pub one_wide : (all left : List Field) (count : ℕ) (in_range : Bool) (table : List Entry) (f : Field) → HasEntries all (f ∷ left) count in_range table → entry_fault f ≡ Some Range → HasEntries all left (count + 1) false table
+one_wide all left count in_range table f h fault =
     let wide = out_of_range f fault in record {
       passed = h.passed ++ f ∷ [];
       cut = h.cut ∙ sym (append_assoc h.passed (f ∷ []) left);
       many = length_push h.passed f ∙ ap (λ (n : ℕ). n + 1) h.many;
       are_entries = list_all_push is_entry h.passed f true true h.are_entries wide.entry;
       are_in_range = list_all_push is_entry_in_range h.passed f in_range false h.are_in_range wide.outside ∙ and-false in_range;
-      row_is = λ p. absurd (false≢true p);
+      table_is = λ p. absurd (false≢true p);
     }

@@ -28,7 +28,7 @@ numbers_lack (z ∷ zs) = (lacks-number z, numbers_lack zs)
 pub lacks-numbers_line : (name : List ℕ) (zs : List ℤ) → lacks 10 name ≡ true → lacks 10 (numbers_line name zs) ≡ true
 lacks-numbers_line name zs h = lacks-spaced name (map spelling zs) (h, numbers_lack zs)
 
--- nor has the line of a word, a side, a value, a row or a pair
+-- nor has the line of a word, a side, a value, a table or a pair
 pub lacks-word_line : (w : ℕ × Word) → lacks 10 (word_line w) ≡ true
 lacks-word_line w = lacks-spaced (codes "word") (spelling (pos w.0) ∷ spelled w.1 ∷ []) (refl, (lacks-number (pos w.0), (lacks-spelled 10 w.1 (omega arith), tt)))
 

@@ -26,7 +26,7 @@ use Rattle.sc_text.specs.Words.{word_line, IsWordInRange, FitsIn, a_word}
 use Rattle.sc_text.specs.Sides.{side_line, IsSideInRange, a_side}
 use Rattle.sc_text.specs.Parts.{words_form, copies_form, sides_form}
 use Rattle.sc_text.specs.Printing.{words_lines, sides_lines}
-use Rattle.sc_text.specs.Surfaces.{heading, ending, from_sides, from_copies, from_words, Said, surface_form, uncounted, surface_due, said, surface_lines, surface_text, surface_table, IsChainInRange, IsSurfaceInRange}
+use Rattle.sc_text.specs.Surfaces.{heading, ending, from_sides, from_copies, from_words, Said, surface_form, uncounted, surface_due, said, surface_lines, surface_text, surface_plan, IsChainInRange, IsSurfaceInRange}
 use Rattle.sc_text.specs.inside.SurfaceRead.{said_by, IsSurfaceRead}
 use Rattle.sc_text.specs.SurfaceRead.{IsSaid}
 use Rattle.sc_text.specs.declared.surface.Surface.{Surface}
@@ -146,13 +146,13 @@ short_surface = short_more all_lines 4000000000 (surface_due VERSION_1) (omega a
 -- ---- the laws
 
 -- the text of a surface in range has no fault
-pub faultless_text : (c : Chain) (n : ℕ) (g : Sides) → IsSurfaceInRange c n g → IsFaultless surface_table (surface_text c n g)
-unfolding surface_table
+pub faultless_text : (c : Chain) (n : ℕ) (g : Sides) → IsSurfaceInRange c n g → IsFaultless surface_plan (surface_text c n g)
+unfolding surface_plan
 faultless_text c n g h = texts.text_is_faultless (surface_form VERSION_1).lines (surface_due VERSION_1) IsSaid all_lines lawful_version_1 (said c n g) h
 
 -- a text without a fault is that of a surface in range
-pub faultless_is_text : (text : List ℕ) → IsFaultless surface_table text → (c : Chain) × (n : ℕ) × (g : Sides) × IsSurfaceInRange c n g × (text ≡ surface_text c n g)
-unfolding surface_table
+pub faultless_is_text : (text : List ℕ) → IsFaultless surface_plan text → (c : Chain) × (n : ℕ) × (g : Sides) × IsSurfaceInRange c n g × (text ≡ surface_text c n g)
+unfolding surface_plan
 faultless_is_text text good =
     let told = texts.faultless_is_text (surface_form VERSION_1).lines (surface_due VERSION_1) IsSaid all_lines lawful_version_1 text good in
     (told.0.second.first, told.0.second.second.first, told.0.second.second.second.first, told.1, told.2)
@@ -166,7 +166,7 @@ pub record IsTextOfSurface (text : List ℕ) : Type 0 where
   pub is : text ≡ surface_text words copies sides
 
 -- there is one for a text without a fault
-pub readable_text : (text : List ℕ) → IsFaultless surface_table text → IsTextOfSurface text
+pub readable_text : (text : List ℕ) → IsFaultless surface_plan text → IsTextOfSurface text
 readable_text text good =
     let told = faultless_is_text text good in
     record { words = told.0; copies = told.1; sides = told.2; in_range = told.3; is = told.4 }
@@ -203,18 +203,18 @@ surface_read bytes r = texts.text_of_read (surface_form VERSION_1).lines (surfac
 
 module _ (bytes : List ℕ) (r : Result Surface TextFault) (read : IsSurfaceRead bytes r) where
   -- a text that was read has no fault
-  pub is_faultless : OnOk r (IsFaultless surface_table bytes)
-  unfolding surface_table
+  pub is_faultless : OnOk r (IsFaultless surface_plan bytes)
+  unfolding surface_plan
   is_faultless = texts.faultless (surface_form VERSION_1).lines (surface_due VERSION_1) IsSaid all_lines lawful_version_1 bytes said_by r read
 
   -- a refusal names the first fault of the text, or want of memory
-  pub is_malformed : IfErr r (IsFaultOf surface_table bytes)
-  unfolding surface_table
+  pub is_malformed : IfErr r (IsFaultOf surface_plan bytes)
+  unfolding surface_plan
   is_malformed = read.malformed
 
   -- a text with a fault is refused, by its first fault or for want of memory
-  pub only_first : (line : ℕ) (kind : Kind) → IsFirstFault surface_table bytes line kind → IsErrAnd r (λ e. (e ≡ text_faults.Malformed line kind) ⊎ (e ≡ text_faults.Memory))
-  unfolding surface_table
+  pub only_first : (line : ℕ) (kind : Kind) → IsFirstFault surface_plan bytes line kind → IsErrAnd r (λ e. (e ≡ text_faults.Malformed line kind) ⊎ (e ≡ text_faults.Memory))
+  unfolding surface_plan
   only_first line kind first = texts.only (surface_form VERSION_1).lines (surface_due VERSION_1) IsSaid all_lines lawful_version_1 bytes said_by r read line kind first
 
   -- what is read of the text of a surface in range is that surface

@@ -13,7 +13,7 @@ use Rattle.sc_text.specs.declared.limits.TheConstants.{MAX_WEIGHT}
 use Rattle.sc_line.specs.declared.fault.Kind.TheVariants.{Form, Range, NotReduced}
 use Rattle.sc_line.specs.Lines.{Field}
 use Rattle.sc_words.specs.Spelling.{letter_byte, letter_of, with_first, word_of}
-use Rattle.sc_text.specs.Words.{spelled, is_reduced, word_fault, weighted_word_fault}
+use Rattle.sc_text.specs.Words.{spelled, is_reduced, weight_and_word_fault, weighted_word_fault}
 use Rattle.sc_line.specs.Faults.{between}
 use Rattle.sc_line.specs.Lines.{lacks}
 use Rattle.sc_line.proofs.NumberLaws.{between-natural}
@@ -158,8 +158,8 @@ unreduced_test w h =
 
 -- ---- the fault of a word with its weight
 
--- a weight that is a number and a nonempty word have no fault of form, but what `word_fault` finds
-pub nonempty_word : (room : ℕ) (z : ℤ) (w : Word) → w ≢ [] → weighted_word_fault room (Some z) (Some w) ≡ word_fault room z w
+-- a weight that is a number and a nonempty word have no fault of form, but what `weight_and_word_fault` finds
+pub nonempty_word : (room : ℕ) (z : ℤ) (w : Word) → w ≢ [] → weighted_word_fault room (Some z) (Some w) ≡ weight_and_word_fault room z w
 nonempty_word room z [] h = absurd (h refl)
 nonempty_word room z (x ∷ w) h = refl
 
@@ -192,7 +192,7 @@ letters_nonempty bs h none =
     eqb-false _ _ some (ap length (sym spells.bytes ∙ ap spelled none))
 
 -- the fault of a weight and a field that spells a word is that of the weight and the word
-pub weighted_is : (room : ℕ) (z : ℤ) (bs : Field) → spells_word bs ≡ true → weighted_word_fault room (Some z) (word_of bs) ≡ word_fault room z (letters_of bs)
+pub weighted_is : (room : ℕ) (z : ℤ) (bs : Field) → spells_word bs ≡ true → weighted_word_fault room (Some z) (word_of bs) ≡ weight_and_word_fault room z (letters_of bs)
 weighted_is room z bs h = rw (word_of_letters bs h) (nonempty_word room z (letters_of bs) (letters_nonempty bs h))
 
 -- a field that spells a word has a byte for each letter
@@ -204,11 +204,11 @@ length-letters_of bs h =
 -- ---- the parts of the fault of a word with its weight
 
 -- a weight out of its range has the fault Range, and so has a word of more letters than there is room for
-pub word_fault_weight : (room : ℕ) (z : ℤ) (w : Word) → between 1 MAX_WEIGHT z ≡ false → word_fault room z w ≡ Some Range
-word_fault_weight room z w h = rw h refl
+pub weight_and_word_fault_weight : (room : ℕ) (z : ℤ) (w : Word) → between 1 MAX_WEIGHT z ≡ false → weight_and_word_fault room z w ≡ Some Range
+weight_and_word_fault_weight room z w h = rw h refl
 
-pub word_fault_room : (room : ℕ) (z : ℤ) (w : Word) → room < length w → word_fault room z w ≡ Some Range
-word_fault_room room z w h =
+pub weight_and_word_fault_room : (room : ℕ) (z : ℤ) (w : Word) → room < length w → weight_and_word_fault room z w ≡ Some Range
+weight_and_word_fault_room room z w h =
     let long : (between 1 MAX_WEIGHT z && leb (length w) room) ≡ false = and_right _ _ (lt-leb (length w) room h) in
     rw long refl
 
@@ -216,8 +216,8 @@ fitting : (room n : ℕ) (w : Word) → 1 ≤ n → n ≤ MAX_WEIGHT → length 
 fitting room n w low high h = and_from _ _ (between-natural 1 MAX_WEIGHT n low high) (le-leb (length w) room h)
 
 -- with both in range, a word that isn't reduced has the fault NotReduced, and one that is has none
-pub word_fault_unreduced : (room n : ℕ) (w : Word) → 1 ≤ n → n ≤ MAX_WEIGHT → length w ≤ room → (IsReduced w → ⊥) → word_fault room (pos n) w ≡ Some NotReduced
+pub word_fault_unreduced : (room n : ℕ) (w : Word) → 1 ≤ n → n ≤ MAX_WEIGHT → length w ≤ room → (IsReduced w → ⊥) → weight_and_word_fault room (pos n) w ≡ Some NotReduced
 word_fault_unreduced room n w low high h unreduced = rw (fitting room n w low high h, unreduced_test w unreduced) refl
 
-pub word_fault_none : (room n : ℕ) (w : Word) → 1 ≤ n → n ≤ MAX_WEIGHT → length w ≤ room → IsReduced w → word_fault room (pos n) w ≡ None
+pub word_fault_none : (room n : ℕ) (w : Word) → 1 ≤ n → n ≤ MAX_WEIGHT → length w ≤ room → IsReduced w → weight_and_word_fault room (pos n) w ≡ None
 word_fault_none room n w low high h reduced = rw (fitting room n w low high h, reduced_test w reduced) refl

@@ -10,7 +10,7 @@ use Rattle.sc_text.specs.declared.limits.Limits.{Limits}
 use Rattle.sc_text.specs.Words.{a_word}
 use Rattle.sc_text.specs.Sides.{a_side}
 use Rattle.sc_text.specs.PriceLines.{a_scale, a_base, a_pair}
-use Rattle.sc_text.specs.TableLines.{Entry, a_row}
+use Rattle.sc_text.specs.TableLines.{Entry, a_table}
 
 -- the words of a chain, which have so many letters together at most
 abbrev pub words_form : Limits → Form (Counted (ℕ × Word)) Chain
@@ -34,4 +34,4 @@ pairs_form ps = many (λ prices. a_pair (get_or ps (length prices) (0, 0))) (len
 
 -- distance tables of n starts
 abbrev pub tables_form : ℕ → Form Tables Tables
-tables_form n = many (λ rows. a_row n (length rows)) n
+tables_form n = many (λ before. a_table n (length before)) n

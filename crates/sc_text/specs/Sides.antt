@@ -3,7 +3,7 @@ use Rattle.std.specs.Prelude.{◌≤◌, [], ◌∷◌, Option, pos, codes}
 use Rattle.sc_theory.specs.declared.Side.{Side}
 use Rattle.sc_text.specs.declared.limits.TheConstants.{MAX_LABEL, MAX_SIDE}
 use Rattle.sc_line.specs.declared.fault.Kind.{Kind}
-use Rattle.sc_line.specs.Lines.{Line, numbers_line, natural_in}
+use Rattle.sc_line.specs.Lines.{Line, numbers_line, natural_of_line}
 use Rattle.sc_line.specs.Faults.{between, numbers_line_fault}
 use Rattle.sc_line.specs.Forms.{LineKind}
 
@@ -17,11 +17,11 @@ pub record IsSideInRange (s : Side) : Type 0 where
   pub mate : s.mate ≤ MAX_SIDE
   pub next : s.next ≤ MAX_SIDE
 
-abbrev pub side_row : Line → Option Kind
-side_row = numbers_line_fault (codes "side") (between 0 MAX_LABEL ∷ between 0 MAX_SIDE ∷ between 0 MAX_SIDE ∷ [])
+abbrev pub side_fault : Line → Option Kind
+side_fault = numbers_line_fault (codes "side") (between 0 MAX_LABEL ∷ between 0 MAX_SIDE ∷ between 0 MAX_SIDE ∷ [])
 
-abbrev pub side_in : Line → Side
-side_in line = record { label = natural_in 1 line; mate = natural_in 2 line; next = natural_in 3 line }
+abbrev pub side_of_line : Line → Side
+side_of_line line = record { label = natural_of_line 1 line; mate = natural_of_line 2 line; next = natural_of_line 3 line }
 
 abbrev pub a_side : LineKind Side
-a_side = record { line = side_line; fault = side_row; value = side_in }
+a_side = record { line = side_line; fault = side_fault; value = side_of_line }

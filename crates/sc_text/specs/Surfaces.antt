@@ -58,8 +58,8 @@ surface_lines c n g = (surface_form VERSION_1).lines (said c n g)
 abbrev pub surface_text : Chain → ℕ → Sides → List ℕ
 surface_text c n g = text_of (surface_lines c n g)
 
-unfoldable pub surface_table : Plan
-surface_table = plan_of (surface_due VERSION_1)
+unfoldable pub surface_plan : Plan
+surface_plan = plan_of (surface_due VERSION_1)
 
 -- ---- the ranges
 

@@ -1,4 +1,4 @@
--- The line of a row of a distance table.
+-- The line of a distance table.
 use Rattle.std.specs.Prelude.{◌≡◌, ℕ, ◌==◌, ◌&&◌, Bool, true, List, ◌∷◌, map, drop, length, Option, Some, None, is_some, if◌then◌else◌, ℤ, pos, neg_ℤ, ◌≤ℤ◌, codes}
 use Rattle.std.specs.List.{list_all, AllByRecursion}
 use Rattle.std.specs.Option.{option_map_or}
@@ -21,7 +21,7 @@ abbrev pub entry_field : Entry → Field
 entry_field None = codes "-"
 entry_field (Some z) = spelling z
 
--- the line of the row of the start s
+-- the line of the table of the start s
 abbrev pub from_line : ℕ → List Entry → Line
 from_line s entries = spaced (codes "from" ∷ spelling (pos s) ∷ map entry_field entries)
 
@@ -40,24 +40,24 @@ abbrev pub entries_fault : ℕ → List Field → Option Kind
 entries_fault count fs =
     if (length fs == count) && list_all is_entry fs then (if list_all is_entry_in_range fs then None else Some Range) else Some Form
 
--- the fault of the line of the row of s, which is due to have so many entries
-abbrev pub from_row : ℕ → ℕ → Line → Option Kind
-from_row count s = named_fault (codes "from") (known_fault (pos s) (entries_fault count))
+-- the fault of the line of the table of s, which is due to have so many entries
+abbrev pub from_fault : ℕ → ℕ → Line → Option Kind
+from_fault count s = named_fault (codes "from") (known_fault (pos s) (entries_fault count))
 
 -- the entries in a line
-abbrev pub entries_in : Line → List Entry
-entries_in line = map entry_of (drop 2 (fields line))
+abbrev pub entries_of_line : Line → List Entry
+entries_of_line line = map entry_of (drop 2 (fields line))
 
 -- what an entry may be
 abbrev pub IsEntryInRange : Entry → Type 0
 IsEntryInRange None = Unit {0}
 IsEntryInRange (Some z) = (neg_ℤ MAX_ENTRY ≤ℤ z) × (z ≤ℤ MAX_ENTRY)
 
--- what a row of so many entries may be
-pub record IsRowInRange (count : ℕ) (entries : List Entry) : Type 0 where
+-- what a table of so many entries may be
+pub record IsTableInRange (count : ℕ) (entries : List Entry) : Type 0 where
   pub count_is : length entries ≡ count
   pub entries_in_range : AllByRecursion IsEntryInRange entries
 
--- the line of the row of the start s
-abbrev pub a_row : ℕ → ℕ → LineKind (List Entry)
-a_row count s = record { line = from_line s; fault = from_row count s; value = entries_in }
+-- the line of the table of the start s
+abbrev pub a_table : ℕ → ℕ → LineKind (List Entry)
+a_table count s = record { line = from_line s; fault = from_fault count s; value = entries_of_line }

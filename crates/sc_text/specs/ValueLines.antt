@@ -55,15 +55,19 @@ value_fields_fault [] = Some Form
 value_fields_fault (f ∷ []) = fraction_up_to_fault MAX_VALUE f
 value_fields_fault (f ∷ g ∷ fs) = Some Form
 
-abbrev pub value_row : Line → Option Kind
-value_row = named_fault (codes "value") value_fields_fault
+abbrev pub value_fault : Line → Option Kind
+value_fault = named_fault (codes "value") value_fields_fault
+
+-- the fraction that a field writes
+abbrev pub half_of_field : ℕ → Field → ℤ
+half_of_field i f = unwrap_or (number_of (get_or (halves f) i [])) (pos 0)
+
+abbrev pub quotient_of_field : Field → Quotient
+quotient_of_field f = (half_of_field 0 f, half_of_field 1 f)
 
 -- the fraction in a line
-abbrev pub half_in : ℕ → Line → ℤ
-half_in i line = unwrap_or (number_of (get_or (halves (get_or (fields line) 1 [])) i [])) (pos 0)
-
-abbrev pub value_in : Line → Quotient
-value_in line = (half_in 0 line, half_in 1 line)
+abbrev pub value_of_line : Line → Quotient
+value_of_line line = quotient_of_field (get_or (fields line) 1 [])
 
 -- a fraction in lowest terms, of a numerator from 0 and a denominator from 1 up to a greatest number
 pub record IsFractionUpTo (most : ℕ) (v : Quotient) : Type 0 where
@@ -78,4 +82,4 @@ abbrev pub IsValueInRange : Quotient → Type 0
 IsValueInRange v = IsFractionUpTo MAX_VALUE v
 
 abbrev pub a_value : LineKind Quotient
-a_value = record { line = value_line; fault = value_row; value = value_in }
+a_value = record { line = value_line; fault = value_fault; value = value_of_line }

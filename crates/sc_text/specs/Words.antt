@@ -6,7 +6,7 @@ use Rattle.sc_theory.specs.Words.{Word, IsReduced, delete_cyclically}
 use Rattle.sc_whole.specs.Spelling.{spelling}
 use Rattle.sc_line.specs.declared.fault.Kind.{Kind}
 use Rattle.sc_line.specs.declared.fault.Kind.TheVariants.{Form, Range, NotReduced}
-use Rattle.sc_line.specs.Lines.{Line, Field, spaced, fields, number_of, natural_in}
+use Rattle.sc_line.specs.Lines.{Line, Field, spaced, fields, number_of, natural_of_line}
 use Rattle.sc_line.specs.Faults.{between, named_fault}
 use Rattle.sc_line.specs.Forms.{LineKind}
 use Rattle.sc_words.specs.Spelling.{letter_byte, word_of}
@@ -39,14 +39,14 @@ pub record FitsIn (room : ℕ) (w : ℕ × Word) : Type 0 where
   pub fits : length w.1 ≤ room
 
 -- the fault of a weight and a word that is to have at most `room` letters
-abbrev pub word_fault : ℕ → ℤ → Word → Option Kind
-word_fault room weight w =
+abbrev pub weight_and_word_fault : ℕ → ℤ → Word → Option Kind
+weight_and_word_fault room weight w =
     if between 1 MAX_WEIGHT weight && nat_le (length w) room then (if is_reduced w then None else Some NotReduced)
     else Some Range
 
 abbrev pub weighted_word_fault : ℕ → Option ℤ → Option Word → Option Kind
 weighted_word_fault room (Some weight) (Some []) = Some Form
-weighted_word_fault room (Some weight) (Some (x ∷ w)) = word_fault room weight (x ∷ w)
+weighted_word_fault room (Some weight) (Some (x ∷ w)) = weight_and_word_fault room weight (x ∷ w)
 weighted_word_fault room (Some weight) None = Some Form
 weighted_word_fault room None w = Some Form
 
@@ -56,12 +56,12 @@ word_fields_fault room (weight ∷ []) = Some Form
 word_fields_fault room (weight ∷ letters ∷ []) = weighted_word_fault room (number_of weight) (word_of letters)
 word_fields_fault room (weight ∷ letters ∷ f ∷ fs) = Some Form
 
-abbrev pub word_row : ℕ → Line → Option Kind
-word_row room = named_fault (codes "word") (word_fields_fault room)
+abbrev pub word_fault : ℕ → Line → Option Kind
+word_fault room = named_fault (codes "word") (word_fields_fault room)
 
-abbrev pub word_in : Line → ℕ × Word
-word_in line = (natural_in 1 line, unwrap_or (word_of (get_or (fields line) 2 [])) [])
+abbrev pub word_of_line : Line → ℕ × Word
+word_of_line line = (natural_of_line 1 line, unwrap_or (word_of (get_or (fields line) 2 [])) [])
 
 -- the line of a word where so many letters may come
 abbrev pub a_word : ℕ → LineKind (ℕ × Word)
-a_word room = record { line = word_line; fault = word_row room; value = word_in }
+a_word room = record { line = word_line; fault = word_fault room; value = word_of_line }

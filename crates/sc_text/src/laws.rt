@@ -4,16 +4,16 @@ ghost use Rattle.std.specs.Prelude.{◌≡◌, ℕ, List};
 ghost use Rattle.sc_theory.specs.Chains.{Chain};
 ghost use Rattle.sc_theory.specs.Fatgraphs.{Sides};
 ghost use Rattle.sc_line.specs.Faults.{IsFaultless};
-ghost use Rattle.sc_text.specs.Surfaces.{surface_table, surface_text, IsSurfaceInRange};
+ghost use Rattle.sc_text.specs.Surfaces.{surface_plan, surface_text, IsSurfaceInRange};
 
 /// The text of a surface in its ranges has no fault at any line, so it is read again.
 pub fn surface_text_is_faultless()
-    ensures { (c : Chain) (n : ℕ) (g : Sides) → IsSurfaceInRange c n g → IsFaultless surface_table (surface_text c n g) }
+    ensures { (c : Chain) (n : ℕ) (g : Sides) → IsSurfaceInRange c n g → IsFaultless surface_plan (surface_text c n g) }
 {}
 
 /// A text without a fault is the text of a surface in its ranges.
 pub fn faultless_is_surface_text()
-    ensures { (text : List ℕ) → IsFaultless surface_table text → (c : Chain) × (n : ℕ) × (g : Sides) × IsSurfaceInRange c n g × (text ≡ surface_text c n g) }
+    ensures { (text : List ℕ) → IsFaultless surface_plan text → (c : Chain) × (n : ℕ) × (g : Sides) × IsSurfaceInRange c n g × (text ≡ surface_text c n g) }
 {}
 
 /// No two surfaces in their ranges have the same text.

@@ -14,7 +14,7 @@ use std::alloc::{AllocError, Global};
 /// The scale of a line `scale D`.
 pub fn scale_line(line: &[u8]) -> Result<i128, Kind>
     ensures ok { IfOk result (λ d. (line.now ≡ lines.scale_line d) × IsScaleInRange d) }
-    ensures err { IfErr result (λ kind. lines.scale_row line.now ≡ Some kind) }
+    ensures err { IfErr result (λ kind. lines.scale_fault line.now ≡ Some kind) }
 {
     number_line(line, b"scale", 1, MAX_PRICE)
 }
@@ -22,7 +22,7 @@ pub fn scale_line(line: &[u8]) -> Result<i128, Kind>
 /// The price of a line `base Z`.
 pub fn base_line(line: &[u8]) -> Result<i128, Kind>
     ensures ok { IfOk result (λ z. (line.now ≡ lines.base_line z) × IsPriceInRange z) }
-    ensures err { IfErr result (λ kind. lines.base_row line.now ≡ Some kind) }
+    ensures err { IfErr result (λ kind. lines.base_fault line.now ≡ Some kind) }
 {
     number_line(line, b"base", -MAX_PRICE, MAX_PRICE)
 }
@@ -30,7 +30,7 @@ pub fn base_line(line: &[u8]) -> Result<i128, Kind>
 /// The price of a line `pair P Q Y`, where `p` and `q` have to stand as P and Q.
 pub fn pair_line(line: &[u8], p: u32, q: u32) -> Result<i128, Kind>
     ensures ok { IfOk result (λ y. (line.now ≡ lines.pair_line (p, q) y) × IsPriceInRange y) }
-    ensures err { IfErr result (λ kind. lines.pair_row (p, q) line.now ≡ Some kind) }
+    ensures err { IfErr result (λ kind. lines.pair_fault (p, q) line.now ≡ Some kind) }
 {
     let mut fields = Fields::of(line);
     fields.name(b"pair")?;

@@ -3,7 +3,7 @@
 ghost use Rattle.sc_line.specs.declared.fault.Kind.{Kind};
 ghost use Rattle.sc_line.specs.declared.fault.TextFault.TheVariants as text_faults;
 ghost use Rattle.sc_line.specs.Faults.{IsFaultless, IsFaultOf, IsFirstFault};
-ghost use Rattle.sc_text.specs.Surfaces.{surface_due, surface_table, surface_text, IsSurfaceInRange};
+ghost use Rattle.sc_text.specs.Surfaces.{surface_due, surface_plan, surface_text, IsSurfaceInRange};
 ghost use Rattle.sc_text.specs.inside.SurfaceRead.{IsSurfaceRead};
 ghost use Rattle.std.specs.Prelude.{◌≡◌, ◌⊎◌, IsErrAnd, ℕ, IfOk, IfErr, OnOk};
 ghost use Rattle.sc_theory.specs.Chains.{Chain};
@@ -80,13 +80,13 @@ pub fn read_surface_text(alloc: Global, bytes: &[u8]) -> Result<Surface, TextFau
     // What is read is the surface of which the bytes are the text.
     ensures surface { IfOk result (λ s. bytes.now ≡ surface_text s.words.items s.copies s.sides.items) }
     ensures in_range { IfOk result (λ s. IsSurfaceInRange s.words.items s.copies s.sides.items) }
-    ensures faultless { OnOk result (IsFaultless surface_table bytes.now) }
+    ensures faultless { OnOk result (IsFaultless surface_plan bytes.now) }
 
     // The fault that is answered is the first one.
-    ensures malformed { IfErr result (IsFaultOf surface_table bytes.now) }
+    ensures malformed { IfErr result (IsFaultOf surface_plan bytes.now) }
 
     // The first fault is answered, unless memory runs out.
-    ensures only { (line : ℕ) (kind : Kind) → IsFirstFault surface_table bytes.now line kind
+    ensures only { (line : ℕ) (kind : Kind) → IsFirstFault surface_plan bytes.now line kind
         → IsErrAnd result (λ e. (e ≡ text_faults.Malformed line kind) ⊎ (e ≡ text_faults.Memory)) }
 
     // The text of a surface in its ranges is read as that surface, unless memory runs out.

@@ -1,11 +1,11 @@
-//! The line of a row of a distance table.
+//! The line of a distance table.
 
 ghost use Rattle.std.specs.Prelude.{◌≡◌, ◌++◌, ◌∷◌, Some, map, IfOk, IfErr, OnOk, OnErr};
 ghost use Rattle.std.specs.List.{flat_map};
 ghost use Rattle.sc_line.specs.LineFaults.{IsFault};
 ghost use Rattle.sc_line.specs.Lines.{ended};
 ghost use Rattle.sc_line.specs.Printing.{AppendsPart};
-ghost use Rattle.sc_text.specs.TableLines.{entry_field, entries_fault, from_row, IsEntryInRange, IsRowInRange};
+ghost use Rattle.sc_text.specs.TableLines.{entry_field, entries_fault, from_fault, IsEntryInRange, IsTableInRange};
 ghost use Rattle.sc_text.specs.inside.TableLines.{entry_fault};
 ghost use Rattle.sc_text.specs.TableLines as lines;
 
@@ -28,24 +28,24 @@ fn entry(field: &[u8]) -> Result<Option<i128>, Kind>
 
 // The entries of fields of which there have to be so many.
 fn entries(alloc: Global, mut fields: Fields, count: usize) -> Result<Vec<Option<i128>>, LineFault>
-    ensures ok { IfOk result (λ row. (fields.entry ≡ map entry_field row.items) × IsRowInRange count row.items) }
+    ensures ok { IfOk result (λ table. (fields.entry ≡ map entry_field table.items) × IsTableInRange count table.items) }
     ensures err { IfErr result (IsFault (entries_fault count fields.entry)) }
 {
-    let mut row = Vec::new(alloc);
+    let mut table = Vec::new(alloc);
     let mut all_in_range = true;
     for _turn in 0..count {
         let Some(field) = fields.next() else {
             return Err(LineFault::Malformed(Kind::Form));
         };
         match entry(field) {
-            Ok(entry) => row.push(entry)?,
+            Ok(entry) => table.push(entry)?,
             Err(Kind::Range) => all_in_range = false,
             Err(kind) => return Err(LineFault::Malformed(kind)),
         }
     }
     fields.end()?;
     if all_in_range {
-        Ok(row)
+        Ok(table)
     } else {
         Err(LineFault::Malformed(Kind::Range))
     }
@@ -58,8 +58,8 @@ pub fn from_line(
     start: u32,
     count: usize,
 ) -> Result<Vec<Option<i128>>, LineFault>
-    ensures ok { IfOk result (λ row. (line.now ≡ lines.from_line start row.items) × IsRowInRange count row.items) }
-    ensures err { IfErr result (IsFault (from_row count start line.now)) }
+    ensures ok { IfOk result (λ table. (line.now ≡ lines.from_line start table.items) × IsTableInRange count table.items) }
+    ensures err { IfErr result (IsFault (from_fault count start line.now)) }
 {
     let mut fields = Fields::of(line);
     fields.name(b"from")?;
@@ -89,7 +89,7 @@ fn print_entries(entries: &[Option<i128>], out: &mut Vec<u8>) -> Result<(), Allo
     Ok(())
 }
 
-/// Appends the line of the row of a start.
+/// Appends the line of the table of a start.
 pub fn print_from_line(
     start: u32,
     entries: &[Option<i128>],

@@ -49,7 +49,7 @@ pub fn fraction_of(field: &[u8], most: u32) -> Result<Frac, Kind>
 /// The fraction of a line `value NUM/DEN`, whose numbers are those of the line.
 pub fn value_line(line: &[u8]) -> Result<Frac, Kind>
     ensures ok { IfOk result (λ v. (line.now ≡ lines.value_line (quotient_of v)) × IsValueInRange (quotient_of v)) }
-    ensures err { IfErr result (λ kind. lines.value_row line.now ≡ Some kind) }
+    ensures err { IfErr result (λ kind. lines.value_fault line.now ≡ Some kind) }
 {
     let mut fields = Fields::of(line);
     fields.name(b"value")?;

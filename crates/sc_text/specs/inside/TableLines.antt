@@ -1,4 +1,4 @@
--- Said by private functions alone: the line of a row of a distance table.
+-- Said by private functions alone: the line of a distance table.
 use Rattle.std.specs.Prelude.{Option, Some, None, if◌then◌else◌}
 use Rattle.sc_line.specs.declared.fault.Kind.{Kind}
 use Rattle.sc_line.specs.declared.fault.Kind.TheVariants.{Form, Range}

@@ -2,7 +2,7 @@ use Rattle.std.proofs.Common.{◌≡◌, ℕ, List, length, sym, subst, ap, ◌�
 use Rattle.sc_theory.specs.Chains.{positions}
 use Rattle.sc_line.specs.Forms.{Tells}
 use Rattle.sc_line.proofs.NumberLaws.{tells_value}
-use Rattle.sc_text.specs.TableLines.{Entry, from_line, from_row, entries_in, IsRowInRange, a_row}
+use Rattle.sc_text.specs.TableLines.{Entry, from_line, from_fault, entries_of_line, IsTableInRange, a_table}
 use Rattle.sc_text.proofs.KindLaws.{from_kind}
 use Rattle.sc_certificate.proofs.items.RowLinesNumberedItem.read.Goals as goal
 
@@ -12,6 +12,6 @@ returns-clause-ok c =
     let n = c.positions-places.result in
     let s = length c.args.before.now in
     let places : n ≡ positions c.args.head.now.chain = c.positions-places.ensures.positions ∙ ap positions c.chain.ensures in
-    subst (λ (k : ℕ). Tells (a_row k s) c.args.line.now c.of_small.result) places
-    (subst (λ (row : List Entry). Tells (a_row n s) c.args.line.now row) (sym c.of_small.ensures)
-    (tells_value (from_row n s) entries_in (from_line s) (IsRowInRange n) c.in_ok-entries.entries.items c.args.line.now (from_kind n s) told.0 told.1))
+    subst (λ (k : ℕ). Tells (a_table k s) c.args.line.now c.of_small.result) places
+    (subst (λ (row : List Entry). Tells (a_table n s) c.args.line.now row) (sym c.of_small.ensures)
+    (tells_value (from_fault n s) entries_of_line (from_line s) (IsTableInRange n) c.in_ok-entries.entries.items c.args.line.now (from_kind n s) told.0 told.1))

@@ -1,7 +1,7 @@
 use Rattle.std.proofs.Common.{◌≡◌, true, false, sym, ◌∙◌}
 use Rattle.std.proofs.lemmas.Result.{err_from_is_err_and, on_ok_weaker, on_err_weaker, IfErr-weaker}
 use Rattle.sc_certificate.specs.Fronts.{front_at}
-use Rattle.sc_certificate.proofs.LineLaws.{body_told, body_steps, body_fault, body_same, front_steps, front_fault, front_same, value_steps, value_fault}
+use Rattle.sc_certificate.proofs.LineLaws.{body_told, body_steps, body_fault, body_same, front_steps, front_fault, front_same, value_steps, value_refused}
 use Rattle.sc_certificate.proofs.reader.CertificateLinesLinePart.take_line.Goals as goal
 
 pub take_line-requires : goal.take_line-requires
@@ -41,7 +41,7 @@ pub returns-in_err-read-in-None-clause-err : goal.returns-in_err-read-in-None-cl
 returns-in_err-read-in-None-clause-err c =
     let r = c.args.self.now in
     let p = err_from_is_err_and c.from_residual.result c.from_residual.ensures.1 in
-    rw (p.1, p.2) (value_fault r.head c.in-None.is _ (front_at r.front) c.words.result.now c.args.line.now c.in_err-read-in-None.field-0.0 c.words.ensures.told c.in_err-read-in-None.ensures.err)
+    rw (p.1, p.2) (value_refused r.head c.in-None.is _ (front_at r.front) c.words.result.now c.args.line.now c.in_err-read-in-None.field-0.0 c.words.ensures.told c.in_err-read-in-None.ensures.err)
 
 pub returns-in_ok-read-in-None-clause-ok : goal.returns-in_ok-read-in-None-clause-ok
 returns-in_ok-read-in-None-clause-ok c =

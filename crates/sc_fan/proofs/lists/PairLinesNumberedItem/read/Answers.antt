@@ -2,7 +2,7 @@ use Rattle.std.proofs.Common.{ℕ, FitsSigned, to_z-of_z, rules, subst}
 use Rattle.std.specs.Int.{w128}
 use Rattle.sc_line.specs.Forms.{Tells}
 use Rattle.sc_line.proofs.NumberLaws.{tells_value}
-use Rattle.sc_text.specs.PriceLines.{pair_line, pair_row, pair_price_in, IsPriceInRange, a_pair}
+use Rattle.sc_text.specs.PriceLines.{pair_line, pair_fault, pair_price_of_line, IsPriceInRange, a_pair}
 use Rattle.sc_text.proofs.KindLaws.{pair_kind}
 use Rattle.sc_fan.proofs.lists.PairLinesNumberedItem.read.Goals as goal
 
@@ -12,4 +12,4 @@ returns-clause-ok c =
     let y = c.in_ok-pair_line.field-0 in
     let at = c.pair_at-p.result in
     let fits : FitsSigned w128 y = search rules in
-    simp (to_z-of_z fits) (subst (λ (p : ℕ × ℕ). Tells (a_pair p) c.args.line.now y) c.pair_at-p.ensures.pair (tells_value (pair_row at) pair_price_in (pair_line at) IsPriceInRange y c.args.line.now (pair_kind at) told.0 told.1))
+    simp (to_z-of_z fits) (subst (λ (p : ℕ × ℕ). Tells (a_pair p) c.args.line.now y) c.pair_at-p.ensures.pair (tells_value (pair_fault at) pair_price_of_line (pair_line at) IsPriceInRange y c.args.line.now (pair_kind at) told.0 told.1))
