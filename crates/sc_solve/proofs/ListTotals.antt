@@ -28,8 +28,7 @@ use Rattle.sc_tables.specs.declared.prices.StepFault.{StepFault}
 use Rattle.sc_tables.specs.declared.prices.StepFault.TheVariants as StepFaults
 use Rattle.sc_tables.proofs.LeastTotals.{open_total-step}
 use Rattle.sc_tables.proofs.ShortWalks.{short_suffices}
-use Rattle.sc_solve.specs.ListSteps.{plain, number}
-use Rattle.sc_solve.specs.inside.ListSteps.{one_level, plain_levels, AreListSteps}
+use Rattle.sc_solve.specs.ListSteps.{plain, number, one_level, plain_levels, AreListSteps}
 use Rattle.sc_solve.specs.ListTables.{IsDistance, AreDistances}
 use Rattle.sc_solve.proofs.ListSizes.{price_fits, total_fits, total_in_range}
 

@@ -1,9 +1,10 @@
 //! Laws of prices at two levels, and of their lift.
 
 ghost use Rattle.std.specs.Prelude.{◌≡◌, ◌<◌, ℕ, ℤ, List, pos, ◌+ℤ◌, ◌*ℤ◌, ◌<ℤ◌};
-ghost use Rattle.sc_theory.specs.Chains.{Chain, IsChain, IsBalanced};
+ghost use Rattle.std.specs.Option.{option_map};
+ghost use Rattle.sc_theory.specs.Chains.{Chain, positions, IsChain, IsBalanced};
 ghost use Rattle.sc_theory.specs.Walks.{IsClosedWalk, walk_total};
-ghost use Rattle.sc_theory.specs.Prices.{Prices, price, bound, Covers};
+ghost use Rattle.sc_theory.specs.Prices.{Prices, Tables, price, entry, bound, Covers, Vouch};
 ghost use Rattle.sc_theory.specs.Columns.{rows, column, right_side};
 ghost use Rattle.sc_weight.specs.declared.level.Level.TheVariants.{Bulk, Fine};
 ghost use Rattle.sc_basis.specs.Products.{dot};
@@ -12,7 +13,12 @@ ghost use Rattle.sc_rows.specs.Standing.{ArePrices};
 ghost use Rattle.sc_rows.specs.declared.prices.PriceRows.{PriceRows};
 ghost use Rattle.sc_simplex.specs.Oracles.{NoneImproves};
 ghost use Rattle.sc_simplex.specs.Optima.{IsSumOfColumns};
-ghost use Rattle.sc_tables.specs.Tables.{AllAtLeast};
+ghost use Rattle.sc_tables.specs.Tables.{AllAtLeast, VouchFor};
+ghost use Rattle.sc_tables.specs.Squares.{Square, cell};
+ghost use Rattle.sc_tables.specs.StepPrices.{price_in};
+ghost use Rattle.sc_tables.specs.CheapPolygons.{entry_in};
+ghost use Rattle.sc_weight.specs.declared.plain.Plain.{Plain};
+ghost use Rattle.sc_solve.specs.ListSteps.{number, one_level, plain_levels, AreListSteps};
 ghost use Rattle.sc_solve.specs.PriceLevels.{list_by, list_at, price_levels, threshold_of, lifted_list};
 ghost use Rattle.sc_solve.specs.PolygonColumns.{column_entries, IsPolygonColumn};
 ghost use Rattle.sc_solve.specs.Lifts.{IsLift};
@@ -50,6 +56,14 @@ pub fn lifts_cover()
     ensures covers { (c : Chain) (p : PriceRows) (list : Prices) → IsChain c → ArePrices (rows c) p →
         NoneImproves (IsPolygonColumn c) (rows c) p → IsLift c p list → Covers c list }
     ensures one { (c : Chain) (p : PriceRows) (list other : Prices) → IsLift c p list → IsLift c p other → list ≡ other }
+{}
+
+/// Where the least totals at one level vouch for the scale of a list, at the prices of the list, the tables of their
+/// numbers vouch for the list: so what is known of tables at two levels holds of those of a certificate.
+pub fn tables_of_one_level_vouch()
+    ensures { (c : Chain) (list : Prices) (steps distances : Square Plain) (tables : Tables) → AreListSteps c list steps →
+        ((s j : ℕ) → s < positions c → j < positions c → entry tables s j ≡ option_map number (cell distances s j)) →
+        VouchFor c (price_in plain_levels steps) (one_level list.scale) (entry_in plain_levels distances) → Vouch c list tables }
 {}
 
 /// For each balanced chain some columns of polygons, repeats allowed, sum to the right side.

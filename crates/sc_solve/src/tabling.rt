@@ -11,8 +11,8 @@ ghost use Rattle.sc_tables.specs.Squares.{cell};
 ghost use Rattle.sc_tables.specs.Tables.{AreLeastTotals, VouchFor};
 ghost use Rattle.sc_tables.specs.StepPrices.{price_in};
 ghost use Rattle.sc_tables.specs.CheapPolygons.{entry_in};
-ghost use Rattle.sc_solve.specs.ListSteps.{plain, number};
-ghost use Rattle.sc_solve.specs.inside.ListSteps.{one_level, plain_levels, AreListSteps, IsRowOf, AreRowsOf};
+ghost use Rattle.sc_solve.specs.ListSteps.{plain, number, one_level, plain_levels, AreListSteps};
+ghost use Rattle.sc_solve.specs.inside.ListSteps.{IsRowOf, AreRowsOf};
 ghost use Rattle.sc_solve.specs.ListTables.{AreDistances};
 
 use sc_certificate::{PriceList, Row, Tables};

@@ -1,7 +1,8 @@
 -- The least totals of walks, and the tables that vouch for a threshold.
-use Rattle.std.specs.Prelude.{◌≡◌, ◌≢◌, ℕ, ◌<◌, List, Option, Some, None}
+use Rattle.std.specs.Prelude.{◌≡◌, ℕ, ◌<◌, List, Option, Some, None}
 use Rattle.sc_theory.specs.Chains.{Chain, positions}
-use Rattle.sc_theory.specs.Walks.{IsStep, IsClosedWalk, IsPolygon}
+use Rattle.sc_theory.specs.Walks.{IsClosedWalk, IsPolygon}
+use Rattle.sc_theory.specs.Prices.{VouchBy}
 use Rattle.sc_weight.specs.Levels.{Levels, zero_levels, levels_sum}
 use Rattle.sc_tables.specs.Walks.{LeadsTo}
 use Rattle.sc_tables.specs.Totals.{open_total, closed_total, IsBelow, IsAtMost}
@@ -29,10 +30,6 @@ IsLeastTotal c price s j None = (js : List ℕ) → ¬ LeadsTo c s j js
 abbrev pub AreLeastTotals : Chain → (ℕ → ℕ → Levels) → (ℕ → ℕ → Option Levels) → Type 0
 AreLeastTotals c price entry = (s j : ℕ) → s < positions c → j < positions c → IsLeastTotal c price s j (entry s j)
 
--- the tables vouch for the threshold: the rows start at 0, no step undercuts them, and none comes back for less than the threshold
-pub record VouchFor (c : Chain) (price : ℕ → ℕ → Levels) (threshold : Levels) (entry : ℕ → ℕ → Option Levels) : Type 0 where
-  pub starts : (s : ℕ) → s < positions c → entry s s ≡ Some zero_levels
-  pub goes : (s i j : ℕ) (a : Levels) → s < positions c → IsStep c i j → entry s i ≡ Some a → j ≢ s →
-      (b : Levels) × (entry s j ≡ Some b) × IsAtMost b (levels_sum a (price i j))
-  pub returns : (s i : ℕ) (a : Levels) → s < positions c → IsStep c i s → entry s i ≡ Some a →
-      IsAtMost threshold (levels_sum a (price i s))
+-- the tables vouch for the threshold, over amounts of two levels
+abbrev pub VouchFor : Chain → (ℕ → ℕ → Levels) → Levels → (ℕ → ℕ → Option Levels) → Type 0
+VouchFor c price threshold entry = VouchBy zero_levels levels_sum IsAtMost c price threshold entry

@@ -56,18 +56,23 @@ bound c list = sum_below (λ w. pos (weight c w) *ℤ get_or list.base w (pos 0)
 abbrev pub IsTight : Chain → Prices → ℕ → Sides → Type 0
 IsTight c list n g = list.scale *ℤ pos (vertices g) ≡ pos n *ℤ bound c list
 
--- a row for each start, with an entry or none for each position
+-- a table for each start, with an entry or none for each position
 abbrev pub Tables : Type 0
 Tables = List (List (Option ℤ))
 
--- the entry of the row of s at the position i
+-- the entry of the table of s at the position i
 abbrev pub entry : Tables → ℕ → ℕ → Option ℤ
 entry tables s i = get_or (get_or tables s []) i None
 
--- the tables vouch for the list: the rows start at 0, no step undercuts them, and none comes back for less than the scale
-pub record Vouch (c : Chain) (list : Prices) (tables : Tables) : Type 0 where
-  pub starts : (s : ℕ) → s < positions c → entry tables s s ≡ Some (pos 0)
-  pub goes : (s i j : ℕ) (a : ℤ) → s < positions c → IsStep c i j → entry tables s i ≡ Some a → j ≢ s →
-      (b : ℤ) × (entry tables s j ≡ Some b) × (b ≤ℤ (a +ℤ price c list i j))
-  pub returns : (s i : ℕ) (a : ℤ) → s < positions c → IsStep c i s → entry tables s i ≡ Some a →
-      list.scale ≤ℤ (a +ℤ price c list i s)
+-- the tables vouch for a threshold: each starts at 0, no step undercuts it, and none comes back for less than the threshold.
+-- What is added up may be whole numbers or pairs of them: it is given by a zero, a sum and an order
+pub record VouchBy {A : Type 0} (zero : A) (sum : A → A → A) (AtMost : A → A → Type 0) (c : Chain) (price : ℕ → ℕ → A) (threshold : A) (entry : ℕ → ℕ → Option A) : Type 0 where
+  pub starts : (s : ℕ) → s < positions c → entry s s ≡ Some zero
+  pub goes : (s i j : ℕ) (a : A) → s < positions c → IsStep c i j → entry s i ≡ Some a → j ≢ s →
+      (b : A) × (entry s j ≡ Some b) × AtMost b (sum a (price i j))
+  pub returns : (s i : ℕ) (a : A) → s < positions c → IsStep c i s → entry s i ≡ Some a →
+      AtMost threshold (sum a (price i s))
+
+-- the tables vouch for the list: they do for its scale, at its prices
+abbrev pub Vouch : Chain → Prices → Tables → Type 0
+Vouch c list tables = VouchBy (pos 0) (λ x y. x +ℤ y) (λ x y. x ≤ℤ y) c (price c list) list.scale (entry tables)

@@ -5,7 +5,7 @@ use Rattle.sc_tables.specs.Tables.{IsPolygonBelow, AreLeastTotals, VouchFor}
 use Rattle.sc_tables.specs.Squares.{cell}
 use Rattle.sc_tables.specs.StepPrices.{price_in}
 use Rattle.sc_tables.specs.CheapPolygons.{IsTableFault, PolygonIsBelow, TablesVouch, TablesAreLeast, entry_in}
-use Rattle.sc_solve.specs.inside.ListSteps.{one_level, plain_levels}
+use Rattle.sc_solve.specs.ListSteps.{one_level, plain_levels}
 use Rattle.sc_solve.proofs.ListTotals.{no_cheap_polygon, no_wide_walk, entry_small}
 use Rattle.sc_solve.proofs.tabling.least_totals.Goals as goal
 
