@@ -10,7 +10,7 @@ use Rattle.sc_tables.specs.declared.search.Candidate.{Candidate}
 use Rattle.sc_tables.specs.declared.search.Stop.{Stop}
 use Rattle.sc_tables.specs.declared.search.Stop.TheVariants.{Wide, Memory}
 use Rattle.sc_tables.specs.inside.Searches.{IsCandidate, HasNoStep, IsBest, IsStop, Closes, AllReach}
-use Rattle.sc_tables.specs.Searches.{Under, Covers}
+use Rattle.sc_tables.specs.Searches.{Under, UnderEach}
 use Rattle.sc_tables.proofs.Order.{at_most-trans}
 
 -- an option holds one item
@@ -50,15 +50,15 @@ module _ {W : Type 0} (levels : W → Levels) (t : Square W) (nodes : List (Node
   best_next best next r inside is found none one below_next below_best =
       record {
         candidate = candidate_next best next r inside is.candidate found one;
-        covers = λ n x w from below here step. elim (cases_lt n k) [
-          | inl before ↦ by_best best r _ below_best (is.covers n x w from before here step)
+        under_each = λ n x w from below here step. elim (cases_lt n k) [
+          | inl before ↦ by_best best r _ below_best (is.under_each n x w from before here step)
           | inr last ↦ (let at : n ≡ k = omega arith in at_last next r found none below_next x w (subst (λ (m : ℕ). slice_get nodes m ≡ Some x) at here) step)
         ];
       }
 
 -- what is at most the totals of some walks is so of those of fewer walks
-pub covers_below : {W : Type 0} (levels : W → Levels) (t : Square W) (nodes : List (Node W)) (fresh k end j : ℕ) (best : Option (Candidate W)) → end ≤ k → Covers levels t nodes fresh k j best → Covers levels t nodes fresh end j best
-covers_below levels t nodes fresh k end j best more covers n x w from below here step = covers n x w from (omega arith) here step
+pub under_each_below : {W : Type 0} (levels : W → Levels) (t : Square W) (nodes : List (Node W)) (fresh k end j : ℕ) (best : Option (Candidate W)) → end ≤ k → UnderEach levels t nodes fresh k j best → UnderEach levels t nodes fresh end j best
+under_each_below levels t nodes fresh k end j best more under_each n x w from below here step = under_each n x w from (omega arith) here step
 
 -- a stop at one of the first walks is a stop at one of more walks
 pub stop_within : {W : Type 0} (levels : W → Levels) (t : Square W) (nodes : List (Node W)) (k end j : ℕ) (stop : Stop) → k ≤ end → IsStop levels t nodes k j stop → IsStop levels t nodes end j stop
@@ -69,8 +69,8 @@ stop_within levels t nodes k end j Memory more is = tt
 -- the same of an equal list and an equal candidate
 module _ {W : Type 0} (levels : W → Levels) (t : Square W) (a b : List (Node W)) (fresh end j : ℕ) (x y : Option (Candidate W)) (lists : a ≡ b) (options : x ≡ y) where
   -- both facts go over to an equal list and an equal option
-  pub covers-along : Covers levels t a fresh end j x → Covers levels t b fresh end j y
-  covers-along covers = subst (λ (o : Option (Candidate W)). Covers levels t b fresh end j o) options (subst (λ (ns : List (Node W)). Covers levels t ns fresh end j x) lists covers)
+  pub under_each-along : UnderEach levels t a fresh end j x → UnderEach levels t b fresh end j y
+  under_each-along under_each = subst (λ (o : Option (Candidate W)). UnderEach levels t b fresh end j o) options (subst (λ (ns : List (Node W)). UnderEach levels t ns fresh end j x) lists under_each)
 
   pub found-along : IfSome x (λ c. (c.node < end) × IsCandidate levels t a j c) → IfSome y (λ c. (c.node < end) × IsCandidate levels t b j c)
   found-along found =
@@ -90,13 +90,13 @@ module _ {W : Type 0} (levels : W → Levels) (t : Square W) (nodes : List (Node
       record { here = is.here; here_is = is.here_is; price = is.price; step = is.step; below = subst (λ (l : Levels). IsBelow l threshold) is.total below }
 
   -- where the least total with a step back to s is at least the threshold, so is every one
-  pub reach_from : (found : Option (Candidate W)) (b : Candidate W) → found ≡ Some b → Covers levels t nodes fresh (length nodes) s found → IsAtMost threshold (levels b.total) → AllReach levels t nodes threshold fresh s
-  reach_from found b e covers high n x w from here step =
+  pub reach_from : (found : Option (Candidate W)) (b : Candidate W) → found ≡ Some b → UnderEach levels t nodes fresh (length nodes) s found → IsAtMost threshold (levels b.total) → AllReach levels t nodes threshold fresh s
+  reach_from found b e under_each high n x w from here step =
       let low : IsAtMost (levels b.total) (levels_sum (levels x.total) (levels w)) =
-      subst (λ (o : Option (Candidate W)). Under levels o (levels_sum (levels x.total) (levels w))) e (covers n x w from (slice_get_within nodes n x here) here step) in
+      subst (λ (o : Option (Candidate W)). Under levels o (levels_sum (levels x.total) (levels w))) e (under_each n x w from (slice_get_within nodes n x here) here step) in
       at_most-trans threshold (levels b.total) _ high low
 
   -- where no walk has a step back to s, none comes back below the threshold
-  pub reach_none : (found : Option (Candidate W)) → found ≡ None → Covers levels t nodes fresh (length nodes) s found → AllReach levels t nodes threshold fresh s
-  reach_none found e covers n x w from here step =
-      absurd (subst (λ (o : Option (Candidate W)). Under levels o (levels_sum (levels x.total) (levels w))) e (covers n x w from (slice_get_within nodes n x here) here step))
+  pub reach_none : (found : Option (Candidate W)) → found ≡ None → UnderEach levels t nodes fresh (length nodes) s found → AllReach levels t nodes threshold fresh s
+  reach_none found e under_each n x w from here step =
+      absurd (subst (λ (o : Option (Candidate W)). Under levels o (levels_sum (levels x.total) (levels w))) e (under_each n x w from (slice_get_within nodes n x here) here step))

@@ -6,7 +6,7 @@ use Rattle.sc_tables.specs.Totals.{IsBelow, IsAtMost}
 use Rattle.sc_tables.specs.declared.search.Node.{Node}
 use Rattle.sc_tables.specs.declared.search.Candidate.{Candidate}
 use Rattle.sc_tables.specs.inside.Searches.{ArePlaced, IsCandidate, Extends, IsGrowing, Grows}
-use Rattle.sc_tables.specs.Searches.{Covers, IsEnd, Lower, IsNext}
+use Rattle.sc_tables.specs.Searches.{UnderEach, IsEnd, Lower, IsNext}
 use Rattle.sc_tables.proofs.Order.{at_most-refl, at_most-trans, at_most_from_below}
 use Rattle.sc_tables.proofs.Best.{same_item}
 
@@ -79,9 +79,9 @@ next-grows levels t old new fresh end s j before o within entry g is =
       kept = λ n x e here.
           (let inside : n < length old = omega (arith, entry n e) in
           lower-grows levels old new o (levels x.total) g (is.kept n x e (item_before old new n x g inside here)));
-      covers = λ other n x w from below here step.
+      under_each = λ other n x w from below here step.
           (let inside : n < length old = omega arith in
-          lower-grows levels old new o (levels_sum (levels x.total) (levels w)) g (is.covers other n x w from below (item_before old new n x g inside here) step));
+          lower-grows levels old new o (levels_sum (levels x.total) (levels w)) g (is.under_each other n x w from below (item_before old new n x g inside here) step));
       start = is.start;
     }
 
@@ -101,38 +101,38 @@ module _ {W : Type 0} (levels : W → Levels) (t : Square W) (nodes : List (Node
         placed = end_within nodes end (length nodes) j before within entry;
         old = λ n e below. e;
         kept = itself;
-        covers = λ other n x w from below here step. absurd (other at);
+        under_each = λ other n x w from below here step. absurd (other at);
         start = λ _. refl;
       }
 
   -- none was found
-  pub next_none : Covers levels t nodes fresh end j None → IsNext levels t nodes fresh end s j before before
-  next_none covers =
+  pub next_none : UnderEach levels t nodes fresh end j None → IsNext levels t nodes fresh end s j before before
+  next_none under_each =
       record {
         placed = end_within nodes end (length nodes) j before within entry;
         old = λ n e below. e;
         kept = itself;
-        covers = λ other n x w from below here step. absurd (covers n x w from below here step);
+        under_each = λ other n x w from below here step. absurd (under_each n x w from below here step);
         start = λ _. refl;
       }
 
   -- the entry is at most what was found
-  pub next_kept : (best : Candidate W) → Covers levels t nodes fresh end j (Some best) →
+  pub next_kept : (best : Candidate W) → UnderEach levels t nodes fresh end j (Some best) →
       (n : ℕ) × (x : Node W) × (before ≡ Some n) × (slice_get nodes n ≡ Some x) × IsAtMost (levels x.total) (levels best.total) → IsNext levels t nodes fresh end s j before before
-  next_kept best covers (m, y, is, at, low) =
+  next_kept best under_each (m, y, is, at, low) =
       record {
         placed = end_within nodes end (length nodes) j before within entry;
         old = λ n e below. e;
         kept = itself;
-        covers = λ other n x w from below here step. rw is (y, at, at_most-trans (levels y.total) (levels best.total) _ low (covers n x w from below here step));
+        under_each = λ other n x w from below here step. rw is (y, at, at_most-trans (levels y.total) (levels best.total) _ low (under_each n x w from below here step));
         start = λ _. refl;
       }
 
   -- a new walk takes its place
-  pub next_new : j ≢ s → (best : Candidate W) (steps : ℕ) → Covers levels t nodes fresh end j (Some best) →
+  pub next_new : j ≢ s → (best : Candidate W) (steps : ℕ) → UnderEach levels t nodes fresh end j (Some best) →
       ((n : ℕ) (x : Node W) → before ≡ Some n → slice_get nodes n ≡ Some x → IsBelow (levels best.total) (levels x.total)) →
       IsNext levels t (nodes ++ record { place = j; before = best.node; steps = steps; total = best.total } ∷ []) fresh end s j before (Some (length nodes))
-  next_new other best steps covers better =
+  next_new other best steps under_each better =
       let y : Node W = record { place = j; before = best.node; steps = steps; total = best.total } in
       let g : Grows nodes (nodes ++ y ∷ []) = grows_last nodes y in
       record {
@@ -141,9 +141,9 @@ module _ {W : Type 0} (levels : W → Levels) (t : Square W) (nodes : List (Node
         kept = λ n x e here.
             (let inside : n < length nodes = omega (arith, entry_below before n e entry) in
             (y, item_last nodes y, at_most_from_below (levels best.total) (levels x.total) (better n x e (item_before nodes _ n x g inside here))));
-        covers = λ away n x w from below here step.
+        under_each = λ away n x w from below here step.
             (let inside : n < length nodes = omega arith in
-            (y, item_last nodes y, covers n x w from below (item_before nodes _ n x g inside here) step));
+            (y, item_last nodes y, under_each n x w from below (item_before nodes _ n x g inside here) step));
         start = λ at. absurd (other at);
       }
 

@@ -7,7 +7,7 @@ use Rattle.sc_theory.specs.Walks.{IsStep, total_back}
 use Rattle.sc_weight.specs.Levels.{Levels, zero_levels, levels_sum}
 use Rattle.sc_tables.specs.Walks.{end_of, LeadsTo}
 use Rattle.sc_tables.specs.Totals.{bulk_of, fine_of, total_along, open_total, closed_total, IsBelow, IsAtMost}
-use Rattle.sc_tables.specs.Tables.{AllAtLeast, IsLeast, IsLeastTotal, AreLeastTotals, VouchFor}
+use Rattle.sc_tables.specs.Tables.{AllAtLeast, IsLeastOpenTotal, IsLeastTotal, AreLeastTotals, VouchFor}
 use Rattle.sc_tables.proofs.WalkLaws.{walks-append, walks_back, end_of-append, total_along-append, total_back-is}
 use Rattle.sc_tables.proofs.Repeats.{all-append}
 
@@ -65,7 +65,7 @@ module _ (c : Chain) (price : ℕ → ℕ → Levels) where
   reaches s j None none js leads = absurd (none js leads)
   reaches s j (Some b) least js leads = (b, refl, least.least js leads)
 
-  is_reached : (s i : ℕ) (o : Option Levels) (a : Levels) → o ≡ Some a → IsLeastTotal c price s i o → IsLeast c price s i a
+  is_reached : (s i : ℕ) (o : Option Levels) (a : Levels) → o ≡ Some a → IsLeastTotal c price s i o → IsLeastOpenTotal c price s i a
   is_reached s i o a e least = subst (IsLeastTotal c price s i) e least
 
   -- where every closed walk reaches a threshold above 0, tables of least totals vouch for it

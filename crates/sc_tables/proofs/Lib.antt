@@ -5,14 +5,14 @@ pub mod Polygons
 pub mod ShortWalks
 pub mod Vouching
 pub mod LeastTotals
-pub mod Rows
+pub mod AllTables
 pub mod Best
 pub mod Growing
-pub mod NextRows
+pub mod NextTables
 pub mod NodeWalks
 pub mod States
 pub mod SplitSteps
 pub mod StepCells
 pub mod ReadingBack
 pub mod PolygonTotals
-pub mod SearchedRows
+pub mod SearchedTables

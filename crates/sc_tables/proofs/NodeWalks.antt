@@ -56,7 +56,7 @@ pub record IsWalkTo {W : Type 0} (levels : W → Levels) (c : Chain) (t : Square
   pub total : open_total (price_in levels t) s walk ≡ levels x.total
   pub few : length walk ≤ x.steps
 
--- an entry of the table is the price of its step
+-- an entry of the square is the price of its step
 pub price_at : {W : Type 0} (levels : W → Levels) (t : Square W) (i j : ℕ) (w : W) → cell t j i ≡ Some w → price_in levels t i j ≡ levels w
 price_at levels t i j w e = ap (level_of levels) e
 

@@ -11,20 +11,20 @@ use Rattle.sc_tables.specs.StepPrices.{AreForChain, price_in}
 use Rattle.sc_tables.specs.declared.search.Node.{Node}
 use Rattle.sc_tables.specs.inside.Searches.{AreWalks, AllReach, IsGrowing, Grows, AreEnds}
 use Rattle.sc_tables.specs.Searches.{IsEnd, Lower, IsNext}
-use Rattle.sc_tables.specs.inside.States.{IsBegun, CoversWalks, ReachBack, IsState, IsDone}
+use Rattle.sc_tables.specs.inside.States.{IsBegun, UnderEachWalk, ReachBack, IsState, IsDone}
 use Rattle.sc_tables.proofs.Order.{at_most-refl, at_most-trans, at_most-sum}
 use Rattle.sc_tables.proofs.LeastTotals.{open_total-step}
 use Rattle.sc_tables.proofs.Best.{same_item}
 use Rattle.sc_tables.proofs.Growing.{lower-trans, item_before}
-use Rattle.sc_tables.proofs.NextRows.{end_below}
+use Rattle.sc_tables.proofs.NextTables.{end_below}
 use Rattle.sc_tables.proofs.NodeWalks.{last_step_of, price_at}
 
 -- ---- entries
--- a row has entries only within its length
-pub entry_inside : (row : List (Option ℕ)) (i n : ℕ) → get_or row i None ≡ Some n → i < length row
+-- a table has entries only within its length
+pub entry_inside : (table : List (Option ℕ)) (i n : ℕ) → get_or table i None ≡ Some n → i < length table
 entry_inside [] i n e = absurd (cc)
-entry_inside (o ∷ row) zero n e = omega arith
-entry_inside (o ∷ row) (suc i) n e = omega (arith, entry_inside row i n e)
+entry_inside (o ∷ table) zero n e = omega arith
+entry_inside (o ∷ table) (suc i) n e = omega (arith, entry_inside table i n e)
 
 -- the walk that the entry of j names ends at j
 pub end_place : {W : Type 0} (nodes : List (Node W)) (end j : ℕ) (o : Option ℕ) (n : ℕ) (x : Node W) → IsEnd nodes end j o → o ≡ Some n → slice_get nodes n ≡ Some x → x.place ≡ j
@@ -48,19 +48,19 @@ lower_at levels nodes None total is = absurd is
 lower_at levels nodes (Some n) total (x, here, low) = record { number = n; is = refl; node = x; here = here; low = low }
 
 -- ---- walks that are longer by a step
-module _ {W : Type 0} (levels : W → Levels) (c : Chain) (t : Square W) (s : ℕ) (fits : AreForChain c t) (inside : s < t.side) (a b : List (Node W)) (row next : List (Option ℕ)) where
-  -- where the new row has at most each total of the old one with a step more, it covers walks of one step more
-  pub cover_more : Lower levels b (get_or next s None) zero_levels →
-      ((i n j : ℕ) (x : Node W) (w : W) → get_or row i None ≡ Some n → slice_get a n ≡ Some x → j < t.side → j ≢ s → cell t j i ≡ Some w → Lower levels b (get_or next j None) (levels_sum (levels x.total) (levels w))) →
-      (k : ℕ) → CoversWalks levels c t s a row k → CoversWalks levels c t s b next (suc k)
-  cover_more start step k covers j js leads short = elim (last_step_of c s j js leads) [
+module _ {W : Type 0} (levels : W → Levels) (c : Chain) (t : Square W) (s : ℕ) (fits : AreForChain c t) (inside : s < t.side) (a b : List (Node W)) (table next : List (Option ℕ)) where
+  -- where the new table has at most each total of the old one with a step more, it is under each walk of one step more
+  pub under_more : Lower levels b (get_or next s None) zero_levels →
+      ((i n j : ℕ) (x : Node W) (w : W) → get_or table i None ≡ Some n → slice_get a n ≡ Some x → j < t.side → j ≢ s → cell t j i ≡ Some w → Lower levels b (get_or next j None) (levels_sum (levels x.total) (levels w))) →
+      (k : ℕ) → UnderEachWalk levels c t s a table k → UnderEachWalk levels c t s b next (suc k)
+  under_more start step k under_each j js leads short = elim (last_step_of c s j js leads) [
     | inl none ↦
         (let empty : LeadsTo c s j [] = subst (LeadsTo c s j) none leads in
         let at : s ≡ j = empty.ends in
         subst (λ (ks : List ℕ). Lower levels b (get_or next j None) (open_total (price_in levels t) s ks)) (sym none) (subst (λ (m : ℕ). Lower levels b (get_or next m None) zero_levels) at start))
     | inr last ↦
         (let size : length js ≡ suc (length last.front) = ap length last.is ∙ length-append last.front (j ∷ []) ∙ omega arith in
-        let low = lower_at levels a (get_or row last.from None) _ (covers last.from last.front last.leads (omega arith)) in
+        let low = lower_at levels a (get_or table last.from None) _ (under_each last.from last.front last.leads (omega arith)) in
         let (w, at) = fits.step last.from j last.step in
         let more = step last.from low.number j low.node w low.is low.here (omega (arith, last.step.to, fits.side)) (λ e. last.away (sym e)) at in
         let total : levels_sum (open_total (price_in levels t) s last.front) (levels w) ≡ open_total (price_in levels t) s js =
@@ -71,19 +71,19 @@ module _ {W : Type 0} (levels : W → Levels) (c : Chain) (t : Square W) (s : �
   ]
 
 -- ---- one round
-module _ {W : Type 0} (levels : W → Levels) (c : Chain) (t : Square W) (threshold : Levels) (s r fresh : ℕ) (nodes : List (Node W)) (row : List (Option ℕ)) (fits : AreForChain c t) (inside : s < t.side) (state : IsState levels c t threshold s r fresh nodes row) (reach : AllReach levels t nodes threshold fresh s) where
-  back_all : (i n : ℕ) (x : Node W) (w : W) → get_or row i None ≡ Some n → slice_get nodes n ≡ Some x → cell t s i ≡ Some w → IsAtMost threshold (levels_sum (levels x.total) (levels w))
+module _ {W : Type 0} (levels : W → Levels) (c : Chain) (t : Square W) (threshold : Levels) (s r fresh : ℕ) (nodes : List (Node W)) (table : List (Option ℕ)) (fits : AreForChain c t) (inside : s < t.side) (state : IsState levels c t threshold s r fresh nodes table) (reach : AllReach levels t nodes threshold fresh s) where
+  back_all : (i n : ℕ) (x : Node W) (w : W) → get_or table i None ≡ Some n → slice_get nodes n ≡ Some x → cell t s i ≡ Some w → IsAtMost threshold (levels_sum (levels x.total) (levels w))
   back_all i n x w e here step = elim (cases_lt n fresh) [
     | inl old ↦ state.stale_back i n x w e old here step
     | inr new ↦
-        (let at : x.place ≡ i = end_place nodes (length nodes) i (get_or row i None) n x (state.ends i (entry_inside row i n e)) e here in
+        (let at : x.place ≡ i = end_place nodes (length nodes) i (get_or table i None) n x (state.ends i (entry_inside table i n e)) e here in
         reach n x w new here (subst (λ (k : ℕ). cell t s k ≡ Some w) (sym at) step))
   ]
 
   -- a step back to s costs at least the threshold in all, where the entry costs no more than the walk to it
-  pub back_of : (i : ℕ) (js : List ℕ) → Lower levels nodes (get_or row i None) (open_total (price_in levels t) s js) → IsStep c i s → IsAtMost threshold (levels_sum (open_total (price_in levels t) s js) (price_in levels t i s))
+  pub back_of : (i : ℕ) (js : List ℕ) → Lower levels nodes (get_or table i None) (open_total (price_in levels t) s js) → IsStep c i s → IsAtMost threshold (levels_sum (open_total (price_in levels t) s js) (price_in levels t i s))
   back_of i js lower step =
-      let low = lower_at levels nodes (get_or row i None) _ lower in
+      let low = lower_at levels nodes (get_or table i None) _ lower in
       let (w, at) = fits.step i s step in
       let high : IsAtMost threshold (levels_sum (levels low.node.total) (levels w)) = back_all i low.number low.node w low.is low.here at in
       subst (λ (l : Levels). IsAtMost threshold (levels_sum (open_total (price_in levels t) s js) l)) (sym (price_at levels t i s w at))
@@ -91,27 +91,27 @@ module _ {W : Type 0} (levels : W → Levels) (c : Chain) (t : Square W) (thresh
 
   -- walks of one step more don't come back to s below the threshold either
   pub back_next : ReachBack levels c t threshold s (suc r)
-  back_next i js leads short step = back_of i js (state.covers i js leads (omega arith)) step
+  back_next i js leads short step = back_of i js (state.under_each i js leads (omega arith)) step
 
   module _ (new : List (Node W)) (next : List (Option ℕ)) (growing : IsGrowing levels t s (r + 1) (length nodes) new) (grows : Grows nodes new) (len : length next ≡ t.side)
-      (entries : (j : ℕ) → j < t.side → IsNext levels t new fresh (length nodes) s j (get_or row j None) (get_or next j None)) where
-    step_all : (i n j : ℕ) (x : Node W) (w : W) → get_or row i None ≡ Some n → slice_get nodes n ≡ Some x → j < t.side → j ≢ s → cell t j i ≡ Some w → Lower levels new (get_or next j None) (levels_sum (levels x.total) (levels w))
+      (entries : (j : ℕ) → j < t.side → IsNext levels t new fresh (length nodes) s j (get_or table j None) (get_or next j None)) where
+    step_all : (i n j : ℕ) (x : Node W) (w : W) → get_or table i None ≡ Some n → slice_get nodes n ≡ Some x → j < t.side → j ≢ s → cell t j i ≡ Some w → Lower levels new (get_or next j None) (levels_sum (levels x.total) (levels w))
     step_all i n j x w e here within other step = elim (cases_lt n fresh) [
       | inl old ↦
-          (let low = lower_at levels nodes (get_or row j None) _ (state.stale i n j x w e old here within other step) in
+          (let low = lower_at levels nodes (get_or table j None) _ (state.stale i n j x w e old here within other step) in
           lower-trans levels new (get_or next j None) (levels low.node.total) _ ((entries j within).kept low.number low.node low.is (grows.same low.number low.node low.here)) low.low)
       | inr new_one ↦
-          (let is = state.ends i (entry_inside row i n e) in
-          let at : x.place ≡ i = end_place nodes (length nodes) i (get_or row i None) n x is e here in
-          let below : n < length nodes = end_below nodes (length nodes) i (get_or row i None) n is e in
-          (entries j within).covers other n x w new_one below (grows.same n x here) (subst (λ (k : ℕ). cell t j k ≡ Some w) (sym at) step))
+          (let is = state.ends i (entry_inside table i n e) in
+          let at : x.place ≡ i = end_place nodes (length nodes) i (get_or table i None) n x is e here in
+          let below : n < length nodes = end_below nodes (length nodes) i (get_or table i None) n is e in
+          (entries j within).under_each other n x w new_one below (grows.same n x here) (subst (λ (k : ℕ). cell t j k ≡ Some w) (sym at) step))
     ]
 
     next_start : get_or next s None ≡ Some 0
     next_start = (entries s inside).start refl ∙ state.start
 
     -- an entry from before the round is the entry that stood there
-    same_entry : (i n : ℕ) → get_or next i None ≡ Some n → n < length nodes → get_or row i None ≡ Some n
+    same_entry : (i n : ℕ) → get_or next i None ≡ Some n → n < length nodes → get_or table i None ≡ Some n
     same_entry i n e old = (entries i (omega (arith, entry_inside next i n e, len))).old n e old
 
     start_low : Lower levels new (get_or next s None) zero_levels
@@ -138,7 +138,7 @@ module _ {W : Type 0} (levels : W → Levels) (c : Chain) (t : Square W) (thresh
           stale = λ i n j x w e old here within other step.
               step_all i n j x w (same_entry i n e old) (item_before nodes new n x grows old here) within other step;
           stale_back = λ i n x w e old here step. back_all i n x w (same_entry i n e old) (item_before nodes new n x grows old here) step;
-          covers = λ j js leads short. cover_more levels c t s fits inside nodes new row next start_low step_all r state.covers j js leads (omega arith);
+          under_each = λ j js leads short. under_more levels c t s fits inside nodes new table next start_low step_all r state.under_each j js leads (omega arith);
           back = λ i js leads short step. back_next i js leads (omega arith) step;
         }
 
@@ -147,12 +147,12 @@ module _ {W : Type 0} (levels : W → Levels) (c : Chain) (t : Square W) (thresh
       all_old : (i n : ℕ) → get_or next i None ≡ Some n → n < length nodes
       all_old i n e = omega (arith, still, end_below new (length new) i (get_or next i None) n (ends_next i (entry_inside next i n e)) e)
 
-      cover_all : (k : ℕ) → CoversWalks levels c t s new next k
-      cover_all zero j js leads short = next_state.covers j js leads (omega arith)
-      cover_all (suc k) j js leads short =
-          cover_more levels c t s fits inside new new next next start_low
+      under_all : (k : ℕ) → UnderEachWalk levels c t s new next k
+      under_all zero j js leads short = next_state.under_each j js leads (omega arith)
+      under_all (suc k) j js leads short =
+          under_more levels c t s fits inside new new next next start_low
           (λ i n j x w e here within other step. step_all i n j x w (same_entry i n e (all_old i n e)) (item_before nodes new n x grows (all_old i n e) here) within other step)
-          k (cover_all k) j js leads short
+          k (under_all k) j js leads short
 
       -- after a round that adds no walk the search has ended, since no round can add one
       pub still_done : IsDone levels c t threshold s new next
@@ -160,34 +160,34 @@ module _ {W : Type 0} (levels : W → Levels) (c : Chain) (t : Square W) (thresh
           record {
             len = len;
             ends = ends_next;
-            covers = λ j js leads short. cover_all (length js) j js leads (omega arith);
+            under_each = λ j js leads short. under_all (length js) j js leads (omega arith);
             back = λ i js leads short step.
-                (let low = lower_at levels new (get_or next i None) _ (cover_all (length js) i js leads (omega arith)) in
+                (let low = lower_at levels new (get_or next i None) _ (under_all (length js) i js leads (omega arith)) in
                 let e = same_entry i low.number low.is (all_old i low.number low.is) in
                 back_of i js (rw e (low.node, item_before nodes new low.number low.node grows (all_old i low.number low.is) low.here, low.low)) step);
           }
 
 -- ---- the first state, and the end after all rounds
-module _ {W : Type 0} (levels : W → Levels) (c : Chain) (t : Square W) (threshold : Levels) (s : ℕ) (nodes : List (Node W)) (row : List (Option ℕ)) where
+module _ {W : Type 0} (levels : W → Levels) (c : Chain) (t : Square W) (threshold : Levels) (s : ℕ) (nodes : List (Node W)) (table : List (Option ℕ)) where
   -- after as many rounds as there are positions the search has ended
-  pub all_done : (fresh : ℕ) → IsState levels c t threshold s (positions c) fresh nodes row → IsDone levels c t threshold s nodes row
+  pub all_done : (fresh : ℕ) → IsState levels c t threshold s (positions c) fresh nodes table → IsDone levels c t threshold s nodes table
   all_done fresh state =
-      record { len = state.len; ends = state.ends; covers = λ j js leads short. state.covers j js leads (omega arith); back = state.back }
+      record { len = state.len; ends = state.ends; under_each = λ j js leads short. state.under_each j js leads (omega arith); back = state.back }
 
-  -- the row that names the walk without steps alone is the state after no rounds
-  pub first_state : s < t.side → IsBegun levels t.side s nodes row → IsState levels c t threshold s 0 0 nodes row
+  -- the table that names the walk without steps alone is the state after no rounds
+  pub first_state : s < t.side → IsBegun levels t.side s nodes table → IsState levels c t threshold s 0 0 nodes table
   first_state inside begun = at_node begun.node
     where
-      at_node : (x : Node W) × (nodes ≡ x ∷ []) × (x.place ≡ s) × (x.steps ≡ 0) × (levels x.total ≡ zero_levels) → IsState levels c t threshold s 0 0 nodes row
+      at_node : (x : Node W) × (nodes ≡ x ∷ []) × (x.place ≡ s) × (x.steps ≡ 0) × (levels x.total ≡ zero_levels) → IsState levels c t threshold s 0 0 nodes table
       at_node (x, is, at, none, total) =
           record {
             walks = subst (AreWalks levels t s 0) (sym is) walks;
             len = begun.len;
-            ends = λ j within. subst (λ (ns : List (Node W)). IsEnd ns (length ns) j (get_or row j None)) (sym is) (end j (cases_eq j s));
+            ends = λ j within. subst (λ (ns : List (Node W)). IsEnd ns (length ns) j (get_or table j None)) (sym is) (end j (cases_eq j s));
             start = begun.start;
             stale = λ i n j y w e old. absurd (omega arith);
             stale_back = λ i n y w e old. absurd (omega arith);
-            covers = λ j js leads short. cover j js leads (short_is_none js (omega arith));
+            under_each = λ j js leads short. under_each j js leads (short_is_none js (omega arith));
             back = λ i js leads short. absurd (omega arith);
           }
         where
@@ -208,16 +208,16 @@ module _ {W : Type 0} (levels : W → Levels) (c : Chain) (t : Square W) (thresh
               few zero y here = subst (λ (z : Node W). z.steps ≤ 0) (same_item x y (Some x) refl here) (omega arith)
               few (suc n) y here = absurd (cc)
 
-          end : (j : ℕ) → (j ≡ s) ⊎ (j ≢ s) → IsEnd (x ∷ []) 1 j (get_or row j None)
-          end j (inl same) = rw (ap (λ (k : ℕ). get_or row k None) same ∙ begun.start) (x, omega arith, refl, at ∙ sym same)
+          end : (j : ℕ) → (j ≡ s) ⊎ (j ≢ s) → IsEnd (x ∷ []) 1 j (get_or table j None)
+          end j (inl same) = rw (ap (λ (k : ℕ). get_or table k None) same ∙ begun.start) (x, omega arith, refl, at ∙ sym same)
           end j (inr other) = rw (begun.others j other) tt
 
           short_is_none : (js : List ℕ) → length js ≤ 0 → js ≡ []
           short_is_none [] short = refl
           short_is_none (k ∷ ks) short = absurd (omega arith)
 
-          cover : (j : ℕ) (js : List ℕ) → LeadsTo c s j js → js ≡ [] → Lower levels nodes (get_or row j None) (open_total (price_in levels t) s js)
-          cover j js leads empty =
+          under_each : (j : ℕ) (js : List ℕ) → LeadsTo c s j js → js ≡ [] → Lower levels nodes (get_or table j None) (open_total (price_in levels t) s js)
+          under_each j js leads empty =
               let here : LeadsTo c s j [] = subst (LeadsTo c s j) empty leads in
-              let entry : get_or row j None ≡ Some 0 = ap (λ (k : ℕ). get_or row k None) (sym here.ends) ∙ begun.start in
+              let entry : get_or table j None ≡ Some 0 = ap (λ (k : ℕ). get_or table k None) (sym here.ends) ∙ begun.start in
               rw (entry, is) (x, refl, subst (λ (ks : List ℕ). IsAtMost (levels x.total) (open_total (price_in levels t) s ks)) (sym empty) (subst (λ (l : Levels). IsAtMost l zero_levels) (sym total) (at_most-refl zero_levels)))

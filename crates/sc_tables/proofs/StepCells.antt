@@ -28,7 +28,7 @@ use Rattle.sc_tables.specs.StepFaults.{IsStepFault}
 use Rattle.sc_tables.specs.declared.prices.StepFault.{StepFault}
 use Rattle.sc_tables.specs.declared.prices.StepFault.TheVariants.{Turn, Step, Memory}
 
--- the first n cells of the table
+-- the first n cells of the square
 pub record AreCells {W : Type 0} (levels : W → Levels) (c : Chain) (pair base : List W) (side n : ℕ) (cells : List (Option W)) : Type 0 where
   pub len : length cells ≡ n
   pub at : (k : ℕ) → k < n → IsCell levels c pair base (k % side) (k / side) (get_or cells k None)
@@ -98,7 +98,7 @@ turn_is levels c pair base row w (Turn k level wide) here is = (w, ap (slice_get
 turn_is levels c pair base row w (Step from to level wide) here is = absurd is
 turn_is levels c pair base row w Memory here is = absurd is
 
--- ---- the table
+-- ---- the square
 
 -- one cell more
 pub next_cell : {W : Type 0} (levels : W → Levels) (c : Chain) (pair base : List W) (side n : ℕ) (cells : List (Option W)) (o : Option W) → AreCells levels c pair base side n cells → IsCell levels c pair base (n % side) (n / side) o → AreCells levels c pair base side (n + 1) (cells ++ o ∷ [])
@@ -133,7 +133,7 @@ module _ {W : Type 0} (levels : W → Levels) (c : Chain) (pair base : List W) (
   off_step : (i j : ℕ) (o : Option W) (w : W) → o ≡ Some w → IsCell levels c pair base i j o → IsStep c i j
   off_step i j o w e is = (subst (IsCell levels c pair base i j) e is).0
 
-  -- the table has the chain's size, and an entry exactly where there is a step
+  -- the square has the chain's size, and an entry exactly where there is a step
   pub for_chain : AreForChain c t
   for_chain =
       record {
@@ -146,6 +146,6 @@ module _ {W : Type 0} (levels : W → Levels) (c : Chain) (pair base : List W) (
   price_of i j None step e is = absurd (is step)
   price_of i j (Some w) step e is = ap (level_of levels) e ∙ is.1
 
-  -- the price of a step in the table is its exact price
+  -- the price of a step in the square is its exact price
   pub prices_are : (i j : ℕ) → IsStep c i j → price_in levels t i j ≡ step_levels levels c pair base i j
   prices_are i j step = price_of i j (cell t j i) step refl (cell_is i j step.from step.to)

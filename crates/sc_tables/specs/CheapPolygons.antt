@@ -1,5 +1,5 @@
 -- What cheap_polygon answers.
-use Rattle.std.specs.Prelude.{◌≡◌, ℕ, ◌+◌, ◌≤◌, List, [], ◌∷◌, ◌++◌, length, Option}
+use Rattle.std.specs.Prelude.{◌≡◌, ℕ, ◌≤◌, List, [], ◌∷◌, ◌++◌, length, Option}
 use Rattle.std.specs.Option.{option_map}
 use Rattle.sc_theory.specs.Chains.{Chain, positions}
 use Rattle.sc_weight.specs.Levels.{Levels, levels_sum}

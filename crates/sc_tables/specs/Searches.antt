@@ -14,11 +14,11 @@ Under levels None total = ⊥
 Under levels (Some b) total = IsAtMost (levels b.total) total
 
 -- what was found is at most each total of a walk with a step to j, over the walks from the number fresh to below end
-abbrev pub Covers : {W : Type 0} → (W → Levels) → Square W → List (Node W) → ℕ → ℕ → ℕ → Option (Candidate W) → Type 0
-Covers {W} levels t nodes fresh end j found = (n : ℕ) (x : Node W) (w : W) → fresh ≤ n → n < end → slice_get nodes n ≡ Some x → cell t j x.place ≡ Some w →
+abbrev pub UnderEach : {W : Type 0} → (W → Levels) → Square W → List (Node W) → ℕ → ℕ → ℕ → Option (Candidate W) → Type 0
+UnderEach {W} levels t nodes fresh end j found = (n : ℕ) (x : Node W) (w : W) → fresh ≤ n → n < end → slice_get nodes n ≡ Some x → cell t j x.place ≡ Some w →
     Under levels found (levels_sum (levels x.total) (levels w))
 
--- ---- rows
+-- ---- the table of a start
 
 -- an entry is the number of a walk to the position, one of the first ones
 abbrev pub IsEnd : {W : Type 0} → List (Node W) → ℕ → ℕ → Option ℕ → Type 0
@@ -35,6 +35,6 @@ pub record IsNext {W : Type 0} (levels : W → Levels) (t : Square W) (nodes : L
   pub placed : IsEnd nodes (length nodes) j o
   pub old : (n : ℕ) → o ≡ Some n → n < end → before ≡ Some n
   pub kept : (n : ℕ) (x : Node W) → before ≡ Some n → slice_get nodes n ≡ Some x → Lower levels nodes o (levels x.total)
-  pub covers : j ≢ s → (n : ℕ) (x : Node W) (w : W) → fresh ≤ n → n < end → slice_get nodes n ≡ Some x → cell t j x.place ≡ Some w →
+  pub under_each : j ≢ s → (n : ℕ) (x : Node W) (w : W) → fresh ≤ n → n < end → slice_get nodes n ≡ Some x → cell t j x.place ≡ Some w →
       Lower levels nodes o (levels_sum (levels x.total) (levels w))
   pub start : j ≡ s → o ≡ before

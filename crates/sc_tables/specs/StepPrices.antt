@@ -28,17 +28,17 @@ abbrev pub step_levels : {W : Type 0} → (W → Levels) → Chain → List W �
 step_levels levels c pair base i j =
     record { bulk = price c (list_at levels pair base Bulk) i j; fine = price c (list_at levels pair base Fine) i j }
 
--- the table has the size of the chain, and an entry exactly where there is a step
+-- the square has the size of the chain, and an entry exactly where there is a step
 pub record AreForChain {W : Type 0} (c : Chain) (t : Square W) : Type 0 where
   pub side : t.side ≡ positions c
   pub step : (i j : ℕ) → IsStep c i j → (w : W) × (cell t j i ≡ Some w)
   pub only : (i j : ℕ) (w : W) → i < positions c → j < positions c → cell t j i ≡ Some w → IsStep c i j
 
--- the price of a step in the table, in which the steps into a position stand side by side
+-- the price of a step in the square, in which the steps into a position stand side by side
 abbrev pub price_in : {W : Type 0} → (W → Levels) → Square W → ℕ → ℕ → Levels
 price_in levels t i j = level_of levels (cell t j i)
 
--- the place is within the table, and there is an entry
+-- the place is within the square, and there is an entry
 pub record HasStep {W : Type 0} (t : Square W) (i j : ℕ) : Type 0 where
   pub from : i < t.side
   pub to : j < t.side

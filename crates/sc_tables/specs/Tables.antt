@@ -17,13 +17,13 @@ pub record IsPolygonBelow (c : Chain) (price : ℕ → ℕ → Levels) (threshol
   pub below : IsBelow (closed_total price walk) threshold
 
 -- a is the total of a walk from s to j that doesn't come back to s, and none has less
-pub record IsLeast (c : Chain) (price : ℕ → ℕ → Levels) (s j : ℕ) (a : Levels) : Type 0 where
+pub record IsLeastOpenTotal (c : Chain) (price : ℕ → ℕ → Levels) (s j : ℕ) (a : Levels) : Type 0 where
   pub reached : (js : List ℕ) × LeadsTo c s j js × (open_total price s js ≡ a)
   pub least : (js : List ℕ) → LeadsTo c s j js → IsAtMost a (open_total price s js)
 
 -- the entry is the least total of a walk from s to j that doesn't come back to s, and none where there is no such walk
 abbrev pub IsLeastTotal : Chain → (ℕ → ℕ → Levels) → ℕ → ℕ → Option Levels → Type 0
-IsLeastTotal c price s j (Some a) = IsLeast c price s j a
+IsLeastTotal c price s j (Some a) = IsLeastOpenTotal c price s j a
 IsLeastTotal c price s j None = (js : List ℕ) → ¬ LeadsTo c s j js
 
 -- the tables hold the least totals

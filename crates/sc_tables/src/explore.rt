@@ -6,10 +6,10 @@ ghost use Rattle.sc_chain.specs.declared.limits.TheConstants.{MAX_POSITIONS};
 ghost use Rattle.sc_tables.specs.StepPrices.{AreForChain};
 ghost use Rattle.sc_tables.specs.inside.Searches.{AreWalks, IsStop, Closes, Grows, IsGrowing, AreEnds};
 ghost use Rattle.sc_tables.specs.Searches.{IsNext};
-ghost use Rattle.sc_tables.specs.inside.States.{IsFirstRow, IsBegun, IsDone, StopsWithin};
+ghost use Rattle.sc_tables.specs.inside.States.{IsFirstTable, IsBegun, IsDone, StopsWithin};
 
 use crate::prices::StepPrices;
-use crate::search::{Node, Round, Stop, closing, next_row};
+use crate::search::{Node, Round, Stop, closing, next_table};
 use sc_chain::Chain;
 use sc_weight::Weight;
 use std::alloc::{AllocError, Global};
@@ -20,7 +20,7 @@ use std::mem;
 #[derive(Debug, Drop)]
 pub(crate) struct Trails<W> {
     pub(crate) nodes: Vec<Node<W>>,
-    pub(crate) row: Vec<Option<usize>>,
+    pub(crate) table: Vec<Option<usize>>,
     next: Vec<Option<usize>>,
 }
 
@@ -31,19 +31,23 @@ impl<W: Weight> Trails<W> {
     {
         Ok(Trails {
             nodes: Vec::with_capacity(alloc, positions * positions)?,
-            row: Vec::with_capacity(alloc, positions)?,
+            table: Vec::with_capacity(alloc, positions)?,
             next: Vec::with_capacity(alloc, positions)?,
         })
     }
 }
 
 /// The entries before the first round: only the start has one, its walk without steps.
-fn first_row(row: &mut Vec<Option<usize>>, start: usize, positions: usize) -> Result<(), AllocError>
-    ensures { OnOk result (IsFirstRow start positions row.new.items) }
+fn first_table(
+    table: &mut Vec<Option<usize>>,
+    start: usize,
+    positions: usize,
+) -> Result<(), AllocError>
+    ensures { OnOk result (IsFirstTable start positions table.new.items) }
 {
-    row.clear();
+    table.clear();
     for place in 0..positions {
-        row.push(if place == start { Some(0) } else { None })?;
+        table.push(if place == start { Some(0) } else { None })?;
     }
     Ok(())
 }
@@ -55,9 +59,9 @@ pub(crate) fn begin<W: Weight>(
     positions: usize,
 ) -> Result<(), AllocError>
     requires { start < positions }
-    ensures { OnOk result (IsBegun W.levels positions start trails.new.nodes.items trails.new.row.items) }
+    ensures { OnOk result (IsBegun W.levels positions start trails.new.nodes.items trails.new.table.items) }
 {
-    first_row(&mut trails.row, start, positions)?;
+    first_table(&mut trails.table, start, positions)?;
     trails.nodes.clear();
     trails.nodes.push(Node {
         place: start,
@@ -76,22 +80,22 @@ fn advance<W: Weight>(
 ) -> Result<(), Stop>
     requires end { round.end ≡ length trails.old.nodes.items }
     requires growing { IsGrowing W.levels prices.now round.start round.steps round.end trails.old.nodes.items }
-    requires len { length trails.old.row.items ≡ prices.now.side }
-    requires entries { AreEnds trails.old.nodes.items trails.old.row.items }
+    requires len { length trails.old.table.items ≡ prices.now.side }
+    requires entries { AreEnds trails.old.nodes.items trails.old.table.items }
     ensures growing { IsGrowing W.levels prices.now round.start round.steps round.end trails.new.nodes.items }
     ensures grows { Grows trails.old.nodes.items trails.new.nodes.items }
-    ensures len { OnOk result (length trails.new.row.items ≡ prices.now.side) }
-    ensures next { OnOk result ((j : ℕ) → j < prices.now.side → IsNext W.levels prices.now trails.new.nodes.items round.fresh round.end round.start j (get_or trails.old.row.items j None) (get_or trails.new.row.items j None)) }
+    ensures len { OnOk result (length trails.new.table.items ≡ prices.now.side) }
+    ensures next { OnOk result ((j : ℕ) → j < prices.now.side → IsNext W.levels prices.now trails.new.nodes.items round.fresh round.end round.start j (get_or trails.old.table.items j None) (get_or trails.new.table.items j None)) }
     ensures stops { IfErr result (λ stop. (j : ℕ) × (j < prices.now.side) × IsStop W.levels prices.now trails.new.nodes.items round.end j stop) }
 {
-    next_row(
+    next_table(
         &mut trails.nodes,
-        trails.row.as_slice(),
+        trails.table.as_slice(),
         &mut trails.next,
         prices,
         round,
     )?;
-    mem::swap(&mut trails.row, &mut trails.next);
+    mem::swap(&mut trails.table, &mut trails.next);
     Ok(())
 }
 
@@ -106,10 +110,10 @@ pub(crate) fn explore<W: Weight>(
 ) -> Result<Option<usize>, Stop>
     requires prices { AreForChain chain.now prices.now }
     requires start { start < positions chain.now }
-    requires begun { IsBegun W.levels prices.now.side start trails.old.nodes.items trails.old.row.items }
+    requires begun { IsBegun W.levels prices.now.side start trails.old.nodes.items trails.old.table.items }
     ensures walks { AreWalks W.levels prices.now start (positions chain.now) trails.new.nodes.items }
     ensures closes { IfOk result (λ o. IfSome o (Closes W.levels prices.now trails.new.nodes.items (W.levels threshold.now) start)) }
-    ensures done { IfOk result (λ o. IfNone o (IsDone W.levels chain.now prices.now (W.levels threshold.now) start trails.new.nodes.items trails.new.row.items)) }
+    ensures done { IfOk result (λ o. IfNone o (IsDone W.levels chain.now prices.now (W.levels threshold.now) start trails.new.nodes.items trails.new.table.items)) }
     ensures stops { IfErr result (StopsWithin W.levels prices.now trails.new.nodes.items (positions chain.now)) }
 {
     let mut fresh = 0;

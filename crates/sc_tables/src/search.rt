@@ -5,7 +5,7 @@ ghost use Rattle.std.specs.Ordering.{is_lt};
 ghost use Rattle.sc_weight.specs.Levels.{levels_cmp};
 ghost use Rattle.sc_tables.specs.Totals.{IsBelow, IsAtMost};
 ghost use Rattle.sc_tables.specs.inside.Searches.{ArePlaced, IsCandidate, HasNoStep, IsStop, Closes, AllReach, Grows, IsGrowing, AreEnds};
-ghost use Rattle.sc_tables.specs.Searches.{Under, Covers, IsEnd, IsNext};
+ghost use Rattle.sc_tables.specs.Searches.{Under, UnderEach, IsEnd, IsNext};
 
 use crate::prices::StepPrices;
 use sc_weight::{Weight, WideLevel};
@@ -137,7 +137,7 @@ fn best_into<W: Weight>(
     requires to { to < prices.now.side }
     requires placed { ArePlaced prices.now nodes.now }
     ensures found { IfOk result (λ o. IfSome o (λ b. (b.node < end) × IsCandidate W.levels prices.now nodes.now to b)) }
-    ensures covers { IfOk result (Covers W.levels prices.now nodes.now fresh end to) }
+    ensures under_each { IfOk result (UnderEach W.levels prices.now nodes.now fresh end to) }
     ensures stops { IfErr result (IsStop W.levels prices.now nodes.now end to) }
 {
     let mut best = None;
@@ -216,25 +216,25 @@ fn next_entry<W: Weight>(
 }
 
 /// The entries of all positions after a round more.
-pub(crate) fn next_row<W: Weight>(
+pub(crate) fn next_table<W: Weight>(
     nodes: &mut Vec<Node<W>>,
-    row: &[Option<usize>],
+    table: &[Option<usize>],
     next: &mut Vec<Option<usize>>,
     prices: &StepPrices<W>,
     round: Round,
 ) -> Result<(), Stop>
     requires end { round.end ≡ length nodes.old.items }
     requires growing { IsGrowing W.levels prices.now round.start round.steps round.end nodes.old.items }
-    requires len { length row.now ≡ prices.now.side }
-    requires entries { AreEnds nodes.old.items row.now }
+    requires len { length table.now ≡ prices.now.side }
+    requires entries { AreEnds nodes.old.items table.now }
     ensures growing { IsGrowing W.levels prices.now round.start round.steps round.end nodes.new.items }
     ensures grows { Grows nodes.old.items nodes.new.items }
     ensures len { OnOk result (length next.new.items ≡ prices.now.side) }
-    ensures next { OnOk result ((j : ℕ) → j < prices.now.side → IsNext W.levels prices.now nodes.new.items round.fresh round.end round.start j (get_or row.now j None) (get_or next.new.items j None)) }
+    ensures next { OnOk result ((j : ℕ) → j < prices.now.side → IsNext W.levels prices.now nodes.new.items round.fresh round.end round.start j (get_or table.now j None) (get_or next.new.items j None)) }
     ensures stops { IfErr result (λ stop. (j : ℕ) × (j < prices.now.side) × IsStop W.levels prices.now nodes.new.items round.end j stop) }
 {
     next.clear();
-    for (place, entry) in row.iter().enumerate() {
+    for (place, entry) in table.iter().enumerate() {
         next.push(next_entry(nodes, prices, round, place, *entry)?)?;
     }
     Ok(())

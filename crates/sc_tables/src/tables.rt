@@ -25,7 +25,7 @@ use sc_whole::Wide;
 use std::alloc::{AllocError, AllocFailed, Global};
 use std::marker::Model;
 
-/// Why there is neither a polygon nor a table.
+/// Why there are neither a polygon nor tables.
 #[derive(Debug, Drop)]
 pub enum TableFault {
     /// The total of this walk is too wide at this level. The operands are the total without the walk's last step, and the
@@ -127,8 +127,8 @@ fn stop_fault<W: Weight>(
     })
 }
 
-/// A closed walk from the start and back to it whose total is below the threshold, if one is found. Else the rows of the
-/// search are those of the cheapest walks.
+/// A closed walk from the start and back to it whose total is below the threshold, if one is found. Else the table of
+/// the search is that of the cheapest walks.
 pub(crate) fn closed_walk<W: Weight>(
     alloc: Global,
     chain: &Chain,
@@ -141,7 +141,7 @@ pub(crate) fn closed_walk<W: Weight>(
     requires start { start < positions chain.now }
     ensures closed { IfOk result (λ o. IfSome o (λ walk. IsClosedBelow chain.now (price_in W.levels prices.now) (W.levels threshold.now) walk.items)) }
     ensures walks { IfOk result (λ o. AreWalks W.levels prices.now start (positions chain.now) trails.new.nodes.items) }
-    ensures done { IfOk result (λ o. IfNone o (IsDone W.levels chain.now prices.now (W.levels threshold.now) start trails.new.nodes.items trails.new.row.items)) }
+    ensures done { IfOk result (λ o. IfNone o (IsDone W.levels chain.now prices.now (W.levels threshold.now) start trails.new.nodes.items trails.new.table.items)) }
     ensures faults { IfErr result (IsTableFault chain.now (price_in W.levels prices.now)) }
 {
     begin(trails, start, chain.positions())?;
@@ -287,7 +287,7 @@ pub fn cheap_polygon<W: Weight>(
             let polygon = cheap_of(alloc, chain, prices, threshold, walk.as_slice())?;
             return Ok(Found::Polygon(polygon));
         }
-        append_totals(&mut cells, trails.nodes.as_slice(), trails.row.as_slice())?;
+        append_totals(&mut cells, trails.nodes.as_slice(), trails.table.as_slice())?;
     }
     Ok(Found::Tables(Distances { side, cells }))
 }

@@ -1,4 +1,4 @@
-//! What is read from the walks of a search: one of them, and the totals of a row.
+//! What is read from the walks of a search: one of them, and the totals of a table.
 
 ghost use Rattle.std.specs.Prelude.{◌≡◌, ◌<◌, ℕ, length, Some, IfOk, OnOk};
 ghost use Rattle.sc_tables.specs.inside.Searches.{AreEnds};
@@ -45,12 +45,12 @@ fn total_at<W: Weight>(nodes: &[Node<W>], entry: Option<usize>) -> Option<W>
 pub(crate) fn append_totals<W: Weight>(
     cells: &mut Vec<Option<W>>,
     nodes: &[Node<W>],
-    row: &[Option<usize>],
+    table: &[Option<usize>],
 ) -> Result<(), AllocError>
-    requires { AreEnds nodes.now row.now }
-    ensures { OnOk result (AreTotalsAfter nodes.now row.now cells.old.items cells.new.items (length row.now)) }
+    requires { AreEnds nodes.now table.now }
+    ensures { OnOk result (AreTotalsAfter nodes.now table.now cells.old.items cells.new.items (length table.now)) }
 {
-    for entry in row {
+    for entry in table {
         cells.push(total_at(nodes, *entry))?;
     }
     Ok(())

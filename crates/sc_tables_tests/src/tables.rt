@@ -65,8 +65,8 @@ fn even_prices<W: Weight>(
     StepPrices::build(alloc, chain, &pairs, &pair, &base)
 }
 
-// A row of tables, the entries between blanks.
-fn show_row<W: Weight + Debug>(
+// The table of a start, each entry behind a blank.
+fn show_table<W: Weight + Debug>(
     tables: &Distances<W>,
     start: u32,
     positions: u32,
@@ -84,7 +84,7 @@ fn show_row<W: Weight + Debug>(
     Ok(())
 }
 
-// Tables, a row after another.
+// The tables of all starts, one after another.
 fn show_tables<W: Weight + Debug>(
     tables: &Distances<W>,
     positions: u32,
@@ -94,7 +94,7 @@ fn show_tables<W: Weight + Debug>(
 {
     for start in 0..positions {
         write!(shown, ";")?;
-        show_row(tables, start, positions, shown)?;
+        show_table(tables, start, positions, shown)?;
     }
     Ok(())
 }
@@ -229,14 +229,14 @@ fn fine(fine: i128) -> Pair {
 #[test]
 fn tables_of_two_levels(rt: HostRuntime) -> Result<(), Fail> {
     let mut expected = String::new(rt.alloc());
-    for row in [
+    for table in [
         [0, -5, -10, -5],
         [6, 0, -4, 1],
         [11, 5, 0, 6],
         [6, 0, -5, 0],
     ] {
         write!(expected, ";")?;
-        for total in row {
+        for total in table {
             write!(expected, " {:?}", fine(total))?;
         }
     }

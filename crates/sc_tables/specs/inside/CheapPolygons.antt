@@ -13,7 +13,7 @@ use Rattle.sc_tables.specs.declared.search.Stop.{Stop}
 use Rattle.sc_tables.specs.declared.search.Stop.TheVariants as Stops
 use Rattle.sc_weight.specs.declared.level.WideLevel.{WideLevel}
 use Rattle.sc_tables.specs.declared.tables.TableFault.{TableFault}
-use Rattle.sc_tables.specs.declared.tables.TableFault.TheVariants.{Wide, Memory}
+use Rattle.sc_tables.specs.declared.tables.TableFault.TheVariants.{Memory}
 use Rattle.sc_tables.specs.CheapPolygons.{IsTableFault, round}
 
 -- a closed walk below the threshold

@@ -10,7 +10,7 @@ use Rattle.sc_tables.specs.declared.search.Node.{Node}
 use Rattle.sc_tables.specs.declared.search.Candidate.{Candidate}
 use Rattle.sc_tables.specs.declared.search.Stop.{Stop}
 use Rattle.sc_tables.specs.declared.search.Stop.TheVariants.{Wide, Memory}
-use Rattle.sc_tables.specs.Searches.{Covers, IsEnd}
+use Rattle.sc_tables.specs.Searches.{UnderEach, IsEnd}
 
 -- each walk ends at a position
 abbrev pub ArePlaced : {W : Type 0} → Square W → List (Node W) → Type 0
@@ -44,7 +44,7 @@ IsStop levels t nodes end j Memory = Unit {0}
 -- what was found among the walks from the number fresh to below n: a walk with a step to j, and none of the others has less
 pub record IsBest {W : Type 0} (levels : W → Levels) (t : Square W) (nodes : List (Node W)) (fresh n end j : ℕ) (found : Option (Candidate W)) : Type 0 where
   pub candidate : IfSome found (λ b. (b.node < end) × IsCandidate levels t nodes j b)
-  pub covers : Covers levels t nodes fresh n j found
+  pub under_each : UnderEach levels t nodes fresh n j found
 
 -- a step takes the walk of the node n back to the start for less than the threshold
 pub record Closes {W : Type 0} (levels : W → Levels) (t : Square W) (nodes : List (Node W)) (threshold : Levels) (s n : ℕ) : Type 0 where
@@ -87,4 +87,4 @@ pub record Grows {W : Type 0} (old new : List (Node W)) : Type 0 where
   pub same : (n : ℕ) (x : Node W) → slice_get old n ≡ Some x → slice_get new n ≡ Some x
 
 abbrev pub AreEnds : {W : Type 0} → List (Node W) → List (Option ℕ) → Type 0
-AreEnds nodes row = (j : ℕ) → j < length row → IsEnd nodes (length nodes) j (get_or row j None)
+AreEnds nodes table = (j : ℕ) → j < length table → IsEnd nodes (length nodes) j (get_or table j None)

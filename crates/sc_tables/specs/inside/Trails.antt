@@ -1,11 +1,10 @@
--- The walk of a node, read back from its end, and the totals of a row.
-use Rattle.std.specs.Prelude.{◌≡◌, ◌≢◌, ℕ, ◌+◌, ◌<◌, ◌≤◌, List, ◌∷◌, length, get_or, slice_get, reverse, Option, Some, None}
-use Rattle.std.specs.List.{AllByRecursion}
+-- The walk of a node, read back from its end, and the totals of a table.
+use Rattle.std.specs.Prelude.{◌≡◌, ℕ, ◌+◌, ◌<◌, ◌≤◌, List, ◌∷◌, length, get_or, slice_get, Option, Some, None}
 use Rattle.sc_chain.specs.declared.limits.TheConstants.{MAX_POSITIONS}
 use Rattle.sc_theory.specs.Chains.{Chain}
-use Rattle.sc_weight.specs.Levels.{Levels, levels_sum}
+use Rattle.sc_weight.specs.Levels.{Levels}
 use Rattle.sc_tables.specs.Squares.{Square}
-use Rattle.sc_tables.specs.Walks.{WalksAlong, end_of, LeadsTo}
+use Rattle.sc_tables.specs.Walks.{LeadsTo}
 use Rattle.sc_tables.specs.Totals.{open_total}
 use Rattle.sc_tables.specs.StepPrices.{AreForChain, price_in}
 use Rattle.sc_tables.specs.declared.search.Node.{Node}
@@ -17,10 +16,10 @@ IsTotalOf {W} nodes None total = total ≡ None
 IsTotalOf {W} nodes (Some n) total = (x : Node W) × (slice_get nodes n ≡ Some x) × (total ≡ Some x.total)
 
 -- new is old and, behind it, the totals of the first n entries
-pub record AreTotalsAfter {W : Type 0} (nodes : List (Node W)) (row : List (Option ℕ)) (old new : List (Option W)) (n : ℕ) : Type 0 where
+pub record AreTotalsAfter {W : Type 0} (nodes : List (Node W)) (table : List (Option ℕ)) (old new : List (Option W)) (n : ℕ) : Type 0 where
   pub len : length new ≡ length old + n
   pub same : (k : ℕ) → k < length old → get_or new k None ≡ get_or old k None
-  pub total : (j : ℕ) → j < n → IsTotalOf nodes (get_or row j None) (get_or new (length old + j) None)
+  pub total : (j : ℕ) → j < n → IsTotalOf nodes (get_or table j None) (get_or new (length old + j) None)
 
 -- the list is the walk of the node x: from s on, and not back to it
 pub record IsWalkOf {W : Type 0} (levels : W → Levels) (c : Chain) (t : Square W) (s : ℕ) (x : Node W) (walk : List ℕ) : Type 0 where

@@ -12,7 +12,7 @@ returns g c =
         refl,
         c.zero.ensures,
       );
-      len = c.in_ok-first_row.ensures.len;
-      start = c.in_ok-first_row.ensures.start c.requires;
-      others = c.in_ok-first_row.ensures.others;
+      len = c.in_ok-first_table.ensures.len;
+      start = c.in_ok-first_table.ensures.start c.requires;
+      others = c.in_ok-first_table.ensures.others;
     }

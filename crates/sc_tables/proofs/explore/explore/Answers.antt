@@ -10,7 +10,7 @@ use Rattle.sc_tables.proofs.explore.explore.Goals as goal
 
 pub loop-done-init : goal.loop-done-init
 loop-done-init g c =
-    first_state g.W.Weight.levels c.args.chain.now c.args.prices.now (g.W.Weight.levels c.args.threshold.now) c.args.start c.args.trails.now.nodes.items c.args.trails.now.row.items
+    first_state g.W.Weight.levels c.args.chain.now c.args.prices.now (g.W.Weight.levels c.args.threshold.now) c.args.start c.args.trails.now.nodes.items c.args.trails.now.table.items
     (omega (arith, c.requires.prices.side)) c.requires.begun
 
 pub returns-in_err-closed-clause-stops : goal.returns-in_err-closed-clause-stops
@@ -47,10 +47,10 @@ returns-then-len-end-clause-done g c =
     let inside : c.args.start < c.args.prices.now.side = omega (arith, c.requires.prices.side) in
     let end : c.len-end.result ≡ length c.loop-done.trails.nodes.items = c.len-end.ensures ∙ c.loop-done.trails.nodes.ok.0 in
     let growing = subst (λ (n : ℕ). IsGrowing g.W.Weight.levels c.args.prices.now c.args.start (c.loop-done.done + 1) n c.advance.new.trails.nodes.items) end c.in_ok-advance.ensures.growing in
-    let next = subst (λ (n : ℕ). (j : ℕ) → j < c.args.prices.now.side → IsNext g.W.Weight.levels c.args.prices.now c.advance.new.trails.nodes.items c.loop-done.fresh n c.args.start j (get_or c.loop-done.trails.row.items j None) (get_or c.advance.new.trails.row.items j None)) end c.in_ok-advance.ensures.next in
-    still_done g.W.Weight.levels c.args.chain.now c.args.prices.now (g.W.Weight.levels c.args.threshold.now) c.args.start c.loop-done.done c.loop-done.fresh c.loop-done.trails.nodes.items c.loop-done.trails.row.items
+    let next = subst (λ (n : ℕ). (j : ℕ) → j < c.args.prices.now.side → IsNext g.W.Weight.levels c.args.prices.now c.advance.new.trails.nodes.items c.loop-done.fresh n c.args.start j (get_or c.loop-done.trails.table.items j None) (get_or c.advance.new.trails.table.items j None)) end c.in_ok-advance.ensures.next in
+    still_done g.W.Weight.levels c.args.chain.now c.args.prices.now (g.W.Weight.levels c.args.threshold.now) c.args.start c.loop-done.done c.loop-done.fresh c.loop-done.trails.nodes.items c.loop-done.trails.table.items
     c.requires.prices inside c.loop-done.invariant reach_all
-    c.advance.new.trails.nodes.items c.advance.new.trails.row.items growing c.in_ok-advance.ensures.grows c.in_ok-advance.ensures.len next still
+    c.advance.new.trails.nodes.items c.advance.new.trails.table.items growing c.in_ok-advance.ensures.grows c.in_ok-advance.ensures.len next still
 
 pub loop-done-preserved : goal.loop-done-preserved
 loop-done-preserved g c =
@@ -61,8 +61,8 @@ loop-done-preserved g c =
     let end : c.len-end.result ≡ length c.loop-done.trails.nodes.items = c.len-end.ensures ∙ c.loop-done.trails.nodes.ok.0 in
     let inside : c.args.start < c.args.prices.now.side = omega (arith, c.requires.prices.side) in
     let growing = subst (λ (n : ℕ). IsGrowing g.W.Weight.levels c.args.prices.now c.args.start (c.loop-done.done + 1) n c.advance.new.trails.nodes.items) end c.in_ok-advance.ensures.growing in
-    let next = subst (λ (n : ℕ). (j : ℕ) → j < c.args.prices.now.side → IsNext g.W.Weight.levels c.args.prices.now c.advance.new.trails.nodes.items c.loop-done.fresh n c.args.start j (get_or c.loop-done.trails.row.items j None) (get_or c.advance.new.trails.row.items j None)) end c.in_ok-advance.ensures.next in
-    subst (λ (n : ℕ). IsState g.W.Weight.levels c.args.chain.now c.args.prices.now (g.W.Weight.levels c.args.threshold.now) c.args.start (c.loop-done.done + 1) n c.advance.new.trails.nodes.items c.advance.new.trails.row.items) (sym end)
-    (next_state g.W.Weight.levels c.args.chain.now c.args.prices.now (g.W.Weight.levels c.args.threshold.now) c.args.start c.loop-done.done c.loop-done.fresh c.loop-done.trails.nodes.items c.loop-done.trails.row.items
+    let next = subst (λ (n : ℕ). (j : ℕ) → j < c.args.prices.now.side → IsNext g.W.Weight.levels c.args.prices.now c.advance.new.trails.nodes.items c.loop-done.fresh n c.args.start j (get_or c.loop-done.trails.table.items j None) (get_or c.advance.new.trails.table.items j None)) end c.in_ok-advance.ensures.next in
+    subst (λ (n : ℕ). IsState g.W.Weight.levels c.args.chain.now c.args.prices.now (g.W.Weight.levels c.args.threshold.now) c.args.start (c.loop-done.done + 1) n c.advance.new.trails.nodes.items c.advance.new.trails.table.items) (sym end)
+    (next_state g.W.Weight.levels c.args.chain.now c.args.prices.now (g.W.Weight.levels c.args.threshold.now) c.args.start c.loop-done.done c.loop-done.fresh c.loop-done.trails.nodes.items c.loop-done.trails.table.items
     c.requires.prices inside c.loop-done.invariant reach_all
-    c.advance.new.trails.nodes.items c.advance.new.trails.row.items growing c.in_ok-advance.ensures.grows c.in_ok-advance.ensures.len next)
+    c.advance.new.trails.nodes.items c.advance.new.trails.table.items growing c.in_ok-advance.ensures.grows c.in_ok-advance.ensures.len next)

@@ -1,6 +1,6 @@
 use Rattle.std.proofs.Common.{◌+◌, arith}
 use Rattle.std.proofs.lemmas.Result.{err_from_is_err_and}
-use Rattle.sc_tables.proofs.Best.{best_next, covers_below, stop_within}
+use Rattle.sc_tables.proofs.Best.{best_next, under_each_below, stop_within}
 use Rattle.sc_tables.proofs.search.best_into.Goals as goal
 
 pub loop-node-preserved : goal.loop-node-preserved
@@ -8,9 +8,9 @@ loop-node-preserved g c =
     best_next g.W.Weight.levels c.args.prices.now c.args.nodes.now c.args.fresh c.loop-node.node c.args.end c.args.to c.loop-node.best _ c.cheaper-best.result
     c.loop-node-test.true c.loop-node.invariant c.in_ok-with_step.ensures.found c.in_ok-with_step.ensures.none c.cheaper-best.ensures.one c.cheaper-best.ensures.below_next c.cheaper-best.ensures.below_best
 
-pub returns-clause-covers : goal.returns-clause-covers
-returns-clause-covers g c =
-    covers_below g.W.Weight.levels c.args.prices.now c.args.nodes.now c.args.fresh c.loop-node.node c.args.end c.args.to c.loop-node.best (omega arith) c.loop-node.invariant.covers
+pub returns-clause-under_each : goal.returns-clause-under_each
+returns-clause-under_each g c =
+    under_each_below g.W.Weight.levels c.args.prices.now c.args.nodes.now c.args.fresh c.loop-node.node c.args.end c.args.to c.loop-node.best (omega arith) c.loop-node.invariant.under_each
 
 pub returns-in_err-with_step-clause-stops : goal.returns-in_err-with_step-clause-stops
 returns-in_err-with_step-clause-stops g c =

@@ -11,9 +11,9 @@ returns-in-Some-clause-closes g c =
 
 pub returns-in_default-clause-reach : goal.returns-in_default-clause-reach
 returns-in_default-clause-reach g c =
-    reach_from g.W.Weight.levels c.args.prices.now c.args.nodes.now (g.W.Weight.levels c.args.threshold.now) c.args.fresh c.args.start c.in_ok-best.field-0 c.in-Some.best c.in-Some.is c.in_ok-best.ensures.covers
+    reach_from g.W.Weight.levels c.args.prices.now c.args.nodes.now (g.W.Weight.levels c.args.threshold.now) c.args.fresh c.args.start c.in_ok-best.field-0 c.in-Some.best c.in-Some.is c.in_ok-best.ensures.under_each
     (sym c.is_below.ensures ∙ c.if-is_below.false)
 
 pub returns-in_default-2-clause-reach : goal.returns-in_default-2-clause-reach
 returns-in_default-2-clause-reach g c =
-    reach_none g.W.Weight.levels c.args.prices.now c.args.nodes.now (g.W.Weight.levels c.args.threshold.now) c.args.fresh c.args.start c.in_ok-best.field-0 c.in_default.is c.in_ok-best.ensures.covers
+    reach_none g.W.Weight.levels c.args.prices.now c.args.nodes.now (g.W.Weight.levels c.args.threshold.now) c.args.fresh c.args.start c.in_ok-best.field-0 c.in_default.is c.in_ok-best.ensures.under_each

@@ -3,7 +3,7 @@ use Rattle.sc_tables.specs.declared.search.Node.{Node}
 use Rattle.sc_tables.specs.Totals.{IsBelow, IsAtMost}
 use Rattle.sc_tables.specs.inside.Searches.{Grows, IsGrowing}
 use Rattle.sc_tables.specs.Searches.{IsNext}
-use Rattle.sc_tables.proofs.Best.{covers-along, found-along}
+use Rattle.sc_tables.proofs.Best.{under_each-along, found-along}
 use Rattle.sc_tables.proofs.Growing.{next_start, next_none, next_kept, next_new, walks_last, grows_last}
 use Rattle.sc_tables.proofs.search.next_entry.Goals as goal
 
@@ -14,13 +14,13 @@ returns-then-place-round-clause-next g c =
 pub returns-in_default-clause-next : goal.returns-in_default-clause-next
 returns-in_default-clause-next g c =
     next_none g.W.Weight.levels c.args.prices.now c.args.nodes.now.items c.args.round.fresh c.args.round.end c.args.round.start c.args.place c.args.entry c.requires.growing.within c.requires.entry
-    (covers-along g.W.Weight.levels c.args.prices.now c.as_slice-walks.result.now c.args.nodes.now.items c.args.round.fresh c.args.round.end c.args.place c.in_ok-best.field-0 None c.as_slice-walks.ensures.value c.in_default.is c.in_ok-best.ensures.covers)
+    (under_each-along g.W.Weight.levels c.args.prices.now c.as_slice-walks.result.now c.args.nodes.now.items c.args.round.fresh c.args.round.end c.args.place c.in_ok-best.field-0 None c.as_slice-walks.ensures.value c.in_default.is c.in_ok-best.ensures.under_each)
 
 pub returns-then-not-is_better-clause-next : goal.returns-then-not-is_better-clause-next
 returns-then-not-is_better-clause-next g c =
     next_kept g.W.Weight.levels c.args.prices.now c.args.nodes.now.items c.args.round.fresh c.args.round.end c.args.round.start c.args.place c.args.entry c.requires.growing.within c.requires.entry
     c.in-Some.best
-    (covers-along g.W.Weight.levels c.args.prices.now c.as_slice-walks.result.now c.args.nodes.now.items c.args.round.fresh c.args.round.end c.args.place c.in_ok-best.field-0 (Some c.in-Some.best) c.as_slice-walks.ensures.value c.in-Some.is c.in_ok-best.ensures.covers)
+    (under_each-along g.W.Weight.levels c.args.prices.now c.as_slice-walks.result.now c.args.nodes.now.items c.args.round.fresh c.args.round.end c.args.place c.in_ok-best.field-0 (Some c.in-Some.best) c.as_slice-walks.ensures.value c.in-Some.is c.in_ok-best.ensures.under_each)
     (subst (λ (ns : List (Node g.row.W.Denot)). (n : ℕ) × (x : Node g.row.W.Denot) × (c.args.entry ≡ Some n) × (slice_get ns n ≡ Some x) × IsAtMost (g.W.Weight.levels x.total) (g.W.Weight.levels c.in-Some.best.total)) c.as_slice-walks.ensures.value
     (c.is_better.ensures.kept c.if-not-is_better.true))
 
@@ -40,7 +40,7 @@ returns-clause-next g c =
     let next =
     next_new g.W.Weight.levels c.args.prices.now c.args.nodes.now.items c.args.round.fresh c.args.round.end c.args.round.start c.args.place c.args.entry c.requires.growing.within c.requires.entry
     c.if-place-round.false c.in-Some.best c.args.round.steps
-    (covers-along g.W.Weight.levels c.args.prices.now c.as_slice-walks.result.now c.args.nodes.now.items c.args.round.fresh c.args.round.end c.args.place c.in_ok-best.field-0 (Some c.in-Some.best) c.as_slice-walks.ensures.value c.in-Some.is c.in_ok-best.ensures.covers)
+    (under_each-along g.W.Weight.levels c.args.prices.now c.as_slice-walks.result.now c.args.nodes.now.items c.args.round.fresh c.args.round.end c.args.place c.in_ok-best.field-0 (Some c.in-Some.best) c.as_slice-walks.ensures.value c.in-Some.is c.in_ok-best.ensures.under_each)
     (subst (λ (ns : List (Node g.row.W.Denot)). (n : ℕ) (x : Node g.row.W.Denot) → c.args.entry ≡ Some n → slice_get ns n ≡ Some x → IsBelow (g.W.Weight.levels c.in-Some.best.total) (g.W.Weight.levels x.total)) c.as_slice-walks.ensures.value
     (c.is_better.ensures.better c.if-not-is_better.false)) in
     subst (λ (ns : List (Node g.row.W.Denot)). IsNext g.W.Weight.levels c.args.prices.now ns c.args.round.fresh c.args.round.end c.args.round.start c.args.place c.args.entry (Some c.len-node.result)) (sym c.in_ok-push.ensures.items)

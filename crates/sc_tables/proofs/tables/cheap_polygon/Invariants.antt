@@ -1,5 +1,5 @@
 use Rattle.sc_tables.specs.StepPrices.{price_in}
-use Rattle.sc_tables.proofs.SearchedRows.{AreSearched}
+use Rattle.sc_tables.proofs.SearchedTables.{AreSearched}
 use Rattle.sc_tables.proofs.tables.cheap_polygon.Given as goal
 
 abbrev pub invariant-loop-start : goal.invariant-loop-start

@@ -1,4 +1,4 @@
--- Rows that were searched from every start: their totals are the least, and every closed walk reaches the threshold.
+-- Tables that were searched from every start: their totals are the least, and every closed walk reaches the threshold.
 use Rattle.std.proofs.Common.{◌≡◌, ℕ, ◌<◌, List, [], ◌∷◌, length, Option, Some, None, refl, sym, ap, subst, ◌∙◌}
 use Rattle.std.specs.Ordering.{is_lt}
 use Rattle.std.proofs.lemmas.Bool.{false≢true}
@@ -17,14 +17,14 @@ use Rattle.sc_tables.proofs.LeastTotals.{closed_total-back, vouches}
 
 -- the entries are totals of walks from s that don't come back; none of such walks of fewer steps than there are positions
 -- has less, and none of them comes back to s by a further step for less than the threshold
-pub record IsSearched (c : Chain) (price : ℕ → ℕ → Levels) (threshold : Levels) (s : ℕ) (row : ℕ → Option Levels) : Type 0 where
-  pub sound : (j : ℕ) (a : Levels) → j < positions c → row j ≡ Some a → (js : List ℕ) × LeadsTo c s j js × (open_total price s js ≡ a)
-  pub cover : (j : ℕ) (js : List ℕ) → LeadsTo c s j js → length js < positions c →
-      (a : Levels) × (row j ≡ Some a) × IsAtMost a (open_total price s js)
+pub record IsSearched (c : Chain) (price : ℕ → ℕ → Levels) (threshold : Levels) (s : ℕ) (table : ℕ → Option Levels) : Type 0 where
+  pub sound : (j : ℕ) (a : Levels) → j < positions c → table j ≡ Some a → (js : List ℕ) × LeadsTo c s j js × (open_total price s js ≡ a)
+  pub under_each : (j : ℕ) (js : List ℕ) → LeadsTo c s j js → length js < positions c →
+      (a : Levels) × (table j ≡ Some a) × IsAtMost a (open_total price s js)
   pub back : (i : ℕ) (js : List ℕ) → LeadsTo c s i js → length js < positions c → IsStep c i s →
       IsAtMost threshold (levels_sum (open_total price s js) (price i s))
 
-module _ (c : Chain) (price : ℕ → ℕ → Levels) (threshold : Levels) (entry : ℕ → ℕ → Option Levels) (above : IsBelow zero_levels threshold) (rows : (s : ℕ) → s < positions c → IsSearched c price threshold s (entry s)) where
+module _ (c : Chain) (price : ℕ → ℕ → Levels) (threshold : Levels) (entry : ℕ → ℕ → Option Levels) (above : IsBelow zero_levels threshold) (tables : (s : ℕ) → s < positions c → IsSearched c price threshold s (entry s)) where
   no_polygon : (walk : List ℕ) → ¬ IsPolygonBelow c price threshold walk
   no_polygon [] found = found.polygon.closed
   no_polygon (i ∷ js) found =
@@ -32,7 +32,7 @@ module _ (c : Chain) (price : ℕ → ℕ → Levels) (threshold : Levels) (entr
       let step : IsStep c (end_of i js) i = last_step c i i js closed in
       let leads : LeadsTo c i (end_of i js) js = record { walks = walks_out c i i js closed; away = found.polygon.simple.0; ends = refl } in
       let short : length js < positions c = simple_is_short (positions c) (i ∷ js) found.polygon.simple (closed_inside c (i ∷ js) closed) in
-      let high : IsAtMost threshold (levels_sum (open_total price i js) (price (end_of i js) i)) = (rows i step.to).back (end_of i js) js leads short step in
+      let high : IsAtMost threshold (levels_sum (open_total price i js) (price (end_of i js) i)) = (tables i step.to).back (end_of i js) js leads short step in
       let total : closed_total price (i ∷ js) ≡ levels_sum (open_total price i js) (price (end_of i js) i) = closed_total-back price i js (end_of i js) refl in
       false≢true (sym high ∙ sym (ap (λ (t : Levels). is_lt (levels_cmp t threshold)) total) ∙ found.below)
 
@@ -45,14 +45,14 @@ module _ (c : Chain) (price : ℕ → ℕ → Levels) (threshold : Levels) (entr
   least_at : (s j : ℕ) (inside : s < positions c) (within : j < positions c) (o : Option Levels) → entry s j ≡ o → IsLeastTotal c price s j o
   least_at s j inside within None e = λ js leads.
       (let short = short_suffices c price none_negative s j inside js leads in
-      let (a, is, low) = (rows s inside).cover j short.walk short.leads short.short in
+      let (a, is, low) = (tables s inside).under_each j short.walk short.leads short.short in
       absurd (cc))
   least_at s j inside within (Some a) e =
       record {
-        reached = (rows s inside).sound j a within e;
+        reached = (tables s inside).sound j a within e;
         least = λ js leads.
             (let short = short_suffices c price none_negative s j inside js leads in
-            let (b, is, low) = (rows s inside).cover j short.walk short.leads short.short in
+            let (b, is, low) = (tables s inside).under_each j short.walk short.leads short.short in
             let same : b ≡ a = cc in
             at_most-trans a (open_total price s short.walk) (open_total price s js) (subst (λ (x : Levels). IsAtMost x (open_total price s short.walk)) same low) short.lower);
       }
