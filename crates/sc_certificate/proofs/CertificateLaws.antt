@@ -7,7 +7,7 @@ use Rattle.sc_theory.specs.Chains.{Chain, positions}
 use Rattle.sc_theory.specs.Prices.{Tables, pairs}
 use Rattle.sc_theory.specs.Columns.{pair_at}
 use Rattle.sc_chain.specs.declared.polygon.Pivot.{Pivot}
-use Rattle.sc_chain.specs.declared.limits.TheConstants.{MAX_WORDS, MAX_POSITIONS}
+use Rattle.sc_words.specs.declared.limits.TheConstants.{GENERATORS}
 use Rattle.sc_chain.proofs.PairLaws.{pairs_below}
 use Rattle.sc_chain.proofs.PairPlaces.{few_pairs}
 use Rattle.sc_line.specs.Lines.{Line, count_line, lacks, AllLack}
@@ -17,18 +17,18 @@ use Rattle.sc_line.specs.Forms.{Form, LineKind, IsLawful, literal, one, both}
 use Rattle.sc_line.proofs.FormatLaws.{short_more}
 use Rattle.sc_line.proofs.FormLaws.{AreAll, AreFew, lawful_both, lawful_as, lawful_one, lawful_literal, lawful_all, lawful_few}
 use Rattle.sc_text.specs.declared.limits.Limits.{Limits}
-use Rattle.sc_text.specs.declared.limits.TheConstants.{VERSION_1, MAX_SIDES, MAX_PIVOTS}
+use Rattle.sc_text.specs.declared.limits.TheConstants.{VERSION_1}
 use Rattle.sc_text.specs.PriceLines.{IsScaleInRange, IsPriceInRange, a_scale, a_base, a_pair}
 use Rattle.sc_text.specs.ValueLines.{Quotient, IsValueInRange, a_value}
 use Rattle.sc_text.specs.TableLines.{Entry, IsTableInRange, a_table}
 use Rattle.sc_text.specs.Parts.{words_form, copies_form, sides_form, scale_form, bases_form, pairs_form, tables_form}
-use Rattle.sc_text.specs.Surfaces.{ending, uncounted}
+use Rattle.sc_text.specs.Surfaces.{ending, uncounted, IsChainWithin}
 use Rattle.sc_text.proofs.KindLaws.{scale_kind, base_kind, pair_kind, from_kind, value_kind}
 use Rattle.sc_text.proofs.FeedLaws.{lacks-spaced, lacks-number, lacks-numbers_line, lacks-value_line, lacks-pair_line, lacks-from_line}
-use Rattle.sc_text.proofs.SurfaceLaws.{IsChainFor, AreSidesFor, lawful_words, lawful_copies, lawful_sides}
+use Rattle.sc_text.proofs.SurfaceLaws.{AreSidesFor, lawful_words, lawful_copies, lawful_sides}
 use Rattle.sc_certificate.specs.PivotLines.{pivot_line, a_pivot, IsPivotInRange}
 use Rattle.sc_certificate.specs.Sizes.{IsSmallList, FitsCounts, list_of}
-use Rattle.sc_certificate.specs.Certificates.{Certificate, heading, journal_form, from_journal, from_tables, from_pairs, from_bases, from_scale, from_sides, body_form, from_value, front_form, FrontTold, BodyTold, ValueTold, Told, certificate_told, told_by, certificate_form, no_body, certificate_due, IsCertificateInRange}
+use Rattle.sc_certificate.specs.Certificates.{Certificate, heading, journal_form, from_journal, from_tables, from_pairs, from_bases, from_scale, from_sides, body_form, from_value, front_form, FrontTold, BodyTold, ValueTold, Told, certificate_told, told_by, certificate_form, no_body, certificate_due, IsCertificateWithin, IsCertificateInRange}
 use Rattle.sc_certificate.proofs.PivotLaws.{pivot_kind}
 
 -- ---- the parts
@@ -50,7 +50,7 @@ lawful_value = lawful_one a_value IsValueInRange value_kind lacks-value_line
 lawful_scale : IsLawful scale_form.lines (scale_form.due None) IsScaleInRange 1
 lawful_scale = lawful_one a_scale IsScaleInRange scale_kind (λ d. lacks-numbers_line (codes "scale") (d ∷ []) refl)
 
-module _ (m : Limits) (c : Chain) (small : IsChainFor m.words m.positions c) where
+module _ (m : Limits) (c : Chain) (small : IsChainWithin m c) where
   lawful_bases : IsLawful (bases_form (length c)).lines ((bases_form (length c)).due []) (AreAll IsPriceInRange (length c)) m.words
   lawful_bases = lawful_all (λ (prices : List ℤ). a_base) IsPriceInRange (λ b. base_kind) (λ b z. lacks-numbers_line (codes "base") (z ∷ []) refl) (length c) m.words small.count
 
@@ -70,7 +70,7 @@ module _ (m : Limits) (c : Chain) (small : IsChainFor m.words m.positions c) whe
 -- what the lines behind the value may tell under limits: each part in its range and of the size of the chain
 abbrev pub IsBodyFor : Limits → Chain → BodyTold → Type 0
 IsBodyFor m c v =
-    IsCountInRange 1 m.copies v.first × (AreSidesFor m.sides v.second.first × (IsScaleInRange v.second.second.first
+    IsCountInRange 1 m.copies v.first × (AreSidesFor m v.second.first × (IsScaleInRange v.second.second.first
     × (AreAll IsPriceInRange (length c) v.second.second.second.first × (AreAll IsPriceInRange (length (pairs c)) v.second.second.second.second.first
     × (AreAll (IsTableInRange (positions c)) (positions c) v.second.second.second.second.second.first × (AreFew (IsPivotInRange c) m.pivots v.second.second.second.second.second.second.first × Unit {0}))))))
 
@@ -78,7 +78,7 @@ IsBodyFor m c v =
 abbrev pub body_most : Limits → ℕ
 body_most m = 1 + (suc m.sides + (1 + (m.words + (m.positions * m.positions + (m.positions + (suc m.pivots + 1))))))
 
-lawful_body : (m : Limits) (c : Chain) → IsChainFor m.words m.positions c → IsLawful (body_form m c).lines ((body_form m c).due no_body) (IsBodyFor m c) (body_most m)
+lawful_body : (m : Limits) (c : Chain) → IsChainWithin m c → IsLawful (body_form m c).lines ((body_form m c).due no_body) (IsBodyFor m c) (body_most m)
 lawful_body m c small =
     lawful_both _ _ _ _ (λ n. (from_sides m c).lines) _ _ _ (lawful_copies m) (λ n h.
     lawful_both _ _ _ _ (λ g. (from_scale m c).lines) _ _ _ (lawful_sides m) (λ g h.
@@ -88,16 +88,16 @@ lawful_body m c small =
     lawful_both _ _ _ _ (λ t. (from_journal m c).lines) _ _ _ (lawful_tables m c small) (λ t h.
     lawful_both _ _ _ _ (λ j u. ending ∷ []) _ _ _ (lawful_journal m c small) (λ j h. lawful_literal ending refl)))))))
 
-lawful_from_value : (m : Limits) (c : Chain) → IsChainFor m.words m.positions c → IsLawful (from_value m c).lines ((from_value m c).due (record { first = None; second = no_body })) (λ v. IsValueInRange v.first × IsBodyFor m c v.second) (1 + body_most m)
+lawful_from_value : (m : Limits) (c : Chain) → IsChainWithin m c → IsLawful (from_value m c).lines ((from_value m c).due (record { first = None; second = no_body })) (λ v. IsValueInRange v.first × IsBodyFor m c v.second) (1 + body_most m)
 lawful_from_value m c small = lawful_both _ _ _ _ (λ q. (body_form m c).lines) _ _ _ lawful_value (λ q h. lawful_body m c small)
 
 -- what the heading and the words may tell
 abbrev pub IsFrontFor : Limits → FrontTold → Type 0
-IsFrontFor m v = Unit {0} × IsChainFor m.words m.positions v.second
+IsFrontFor m v = Unit {0} × IsChainWithin m v.second
 
 -- the form of the heading and the words is lawful: what is read are the chains within the limits
-pub lawful_front : (m : Limits) → IsLawful (front_form m).lines ((front_form m).due (record { first = false; second = uncounted })) (IsFrontFor m) (1 + suc m.words)
-lawful_front m = lawful_both _ _ _ _ (λ u. (words_form m).lines) _ _ _ (lawful_literal heading refl) (λ u h. lawful_words m)
+pub lawful_front : (m : Limits) → m.generators ≤ GENERATORS → IsLawful (front_form m).lines ((front_form m).due (record { first = false; second = uncounted })) (IsFrontFor m) (1 + suc m.words)
+lawful_front m spelled = lawful_both _ _ _ _ (λ u. (words_form m).lines) _ _ _ (lawful_literal heading refl) (λ u h. lawful_words m spelled)
 
 -- what all the parts of a certificate may tell under limits
 abbrev pub IsToldFor : Limits → Told → Type 0
@@ -107,14 +107,12 @@ IsToldFor m v = IsFrontFor m v.first × (IsValueInRange v.second.first × IsBody
 abbrev pub told_most : Limits → ℕ
 told_most m = (1 + suc m.words) + (1 + body_most m)
 
-lawful_told : (m : Limits) → IsLawful (both (front_form m) (λ x. from_value m x.second)).lines ((both (front_form m) (λ x. from_value m x.second)).due (record { first = record { first = false; second = uncounted }; second = record { first = None; second = no_body } })) (IsToldFor m) (told_most m)
-lawful_told m = lawful_both _ _ _ _ (λ x. (from_value m x.second).lines) _ _ _ (lawful_front m) (λ x h. lawful_from_value m x.second h.1)
+lawful_told : (m : Limits) → m.generators ≤ GENERATORS → IsLawful (both (front_form m) (λ x. from_value m x.second)).lines ((both (front_form m) (λ x. from_value m x.second)).due (record { first = record { first = false; second = uncounted }; second = record { first = None; second = no_body } })) (IsToldFor m) (told_most m)
+lawful_told m spelled = lawful_both _ _ _ _ (λ x. (from_value m x.second).lines) _ _ _ (lawful_front m spelled) (λ x h. lawful_from_value m x.second h.1)
 
--- ---- at the limits of version 1
-
-certificate_in_range : (v : Told) → IsToldFor VERSION_1 v → IsCertificateInRange (certificate_told v)
-certificate_in_range v h = record {
-  chain = record { count = h.0.1.count; words = h.0.1.words_in; letters = h.0.1.letters };
+certificate_in_range : (m : Limits) (v : Told) → IsToldFor m v → IsCertificateWithin m (certificate_told v)
+certificate_in_range m v h = record {
+  chain = h.0.1;
   value = h.1.0;
   some_copies = h.1.1.0.low_end;
   few_copies = h.1.1.0.high_end;
@@ -128,9 +126,9 @@ certificate_in_range v h = record {
   journal = h.1.1.1.1.1.1.1.1.0.all;
 }
 
-in_range_told : (v : Certificate) → IsCertificateInRange v → IsToldFor VERSION_1 (told_by v)
-in_range_told v h = (
-  (tt, record { count = h.chain.count; words_in = h.chain.words; letters = h.chain.letters }),
+in_range_told : (m : Limits) (v : Certificate) → IsCertificateWithin m v → IsToldFor m (told_by v)
+in_range_told m v h = (
+  (tt, h.chain),
   (
     h.value,
     (
@@ -155,6 +153,8 @@ in_range_told v h = (
   ),
 )
 
+-- ---- at the limits of version 1
+
 -- the most lines that a certificate of version 1 has
 abbrev pub all_lines : ℕ
 all_lines = told_most VERSION_1 + 0
@@ -162,7 +162,7 @@ all_lines = told_most VERSION_1 + 0
 -- the form of certificates is lawful: what is read are the certificates in range
 pub lawful_certificate : IsLawful (certificate_form VERSION_1).lines (certificate_due VERSION_1) IsCertificateInRange all_lines
 lawful_certificate =
-    lawful_as _ _ (IsToldFor VERSION_1) (told_most VERSION_1) certificate_told told_by IsCertificateInRange (lawful_told VERSION_1) (λ v. refl) (λ w. refl) certificate_in_range in_range_told
+    lawful_as _ _ (IsToldFor VERSION_1) (told_most VERSION_1) certificate_told told_by IsCertificateInRange (lawful_told VERSION_1 (omega arith)) (λ v. refl) (λ w. refl) (certificate_in_range VERSION_1) (in_range_told VERSION_1)
 
 -- at most 4000000000 lines of a certificate are read, which its reader can count
 pub short_certificate : IsShort 4000000000 (certificate_due VERSION_1)

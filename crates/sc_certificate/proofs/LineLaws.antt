@@ -1,5 +1,5 @@
 -- What a line of a certificate does to what is due.
-use Rattle.std.proofs.Common.{◌≡◌, ℕ, ◌-◌, Bool, true, false, [], ◌∷◌, ◌++◌, Option, Some, None, Result, Ok, Err, refl, sym, ap, subst, ◌∙◌}
+use Rattle.std.proofs.Common.{◌≡◌, ℕ, ◌-◌, Bool, true, false, [], ◌∷◌, ◌++◌, Option, Some, None, Result, Ok, Err, arith, refl, sym, ap, subst, ◌∙◌}
 use Rattle.std.specs.Prelude.{OnOk, OnErr, IfNone}
 use Rattle.std.proofs.lemmas.Bool.{false≢true}
 use Rattle.std.proofs.lemmas.Option.{none-some}
@@ -33,7 +33,7 @@ pub words_told : (p : FrontSoFar) → is_told (front_at p) ≡ true → front_at
 words_told p whole = by_heading p.headed whole
   where
     kind : Chain → LineKind (ℕ × Word)
-    kind c = a_word (p.letters - positions c)
+    kind c = a_word p.limits (p.letters - positions c)
 
     by_heading : (read : Bool) → is_told (both_due (literal_due p.text read) (λ u. counted_from p.name p.most kind p.words.count p.words.items)) ≡ true
         → both_due (literal_due p.text read) (λ u. counted_from p.name p.most kind p.words.count p.words.items) ≡ told (and_also tt p.words.items)
@@ -47,8 +47,7 @@ words_told p whole = by_heading p.headed whole
 pub words_in_range : (p : FrontSoFar) → IsReached (front_at p) → is_told (front_at p) ≡ true → IsChainInRange p.words.items
 words_in_range p h whole =
     let r = h.reads in
-    let is = (lawful_front VERSION_1).in_range h.lines (and_also tt p.words.items) (subst (λ (f : Format FrontTold). Reads front_start h.lines f) (words_told p whole) r) in
-    record { count = is.1.count; words = is.1.words_in; letters = is.1.letters }
+    ((lawful_front VERSION_1 (omega arith)).in_range h.lines (and_also tt p.words.items) (subst (λ (f : Format FrontTold). Reads front_start h.lines f) (words_told p whole) r)).1
 
 -- ---- behind a head
 

@@ -46,8 +46,8 @@ from_lines_are k n before (row ∷ rows) at =
 -- with a price for each pair, the lines of a certificate are those spelled out
 pub same_lines : (v : Certificate) → length v.list.pair ≡ length (pairs v.chain) → certificate_lines v ≡ spelled_lines v
 same_lines v count =
-    let words = lines_map (λ (c : Chain). a_word (VERSION_1.positions - positions c)) word_line (λ b w. refl) [] v.chain in
-    let sides = lines_map (λ (b : Sides). a_side) side_line (λ b s. refl) [] v.sides in
+    let words = lines_map (λ (c : Chain). a_word VERSION_1 (VERSION_1.positions - positions c)) word_line (λ b w. refl) [] v.chain in
+    let sides = lines_map (λ (b : Sides). a_side VERSION_1) side_line (λ b s. refl) [] v.sides in
     let bases = lines_map (λ (b : List ℤ). a_base) base_line (λ b z. refl) [] v.list.base in
     let prices = pair_lines_are (pairs v.chain) [] (pairs v.chain) [] v.list.pair refl refl count in
     let rows = from_lines_are (positions v.chain) 0 [] v.tables refl in

@@ -12,12 +12,12 @@ use Rattle.sc_line.specs.Faults.{Plan}
 use Rattle.sc_line.specs.Formats.{Format, plan_of}
 use Rattle.sc_line.specs.Forms.{Form, Counted, Both, and_also, literal, one, counted, both, as_form}
 use Rattle.sc_text.specs.declared.limits.Limits.{Limits}
-use Rattle.sc_text.specs.declared.limits.TheConstants.{VERSION_1, MAX_COPIES, MAX_SIDES, MAX_PIVOTS}
-use Rattle.sc_text.specs.Sides.{IsSideInRange}
+use Rattle.sc_text.specs.declared.limits.TheConstants.{VERSION_1}
+use Rattle.sc_text.specs.Sides.{IsSideWithin}
 use Rattle.sc_text.specs.ValueLines.{Quotient, a_value, IsValueInRange}
 use Rattle.sc_text.specs.TableLines.{IsTableInRange}
 use Rattle.sc_text.specs.Parts.{words_form, copies_form, sides_form, scale_form, bases_form, pairs_form, tables_form}
-use Rattle.sc_text.specs.Surfaces.{ending, uncounted, IsChainInRange}
+use Rattle.sc_text.specs.Surfaces.{ending, uncounted, IsChainWithin}
 use Rattle.sc_certificate.specs.PivotLines.{a_pivot, IsPivotInRange}
 use Rattle.sc_certificate.specs.Sizes.{IsSmallList, FitsCounts, list_of}
 
@@ -138,17 +138,20 @@ certificate_text v = text_of (certificate_lines v)
 unfoldable pub certificate_plan : Plan
 certificate_plan = plan_of (certificate_due VERSION_1)
 
--- what a certificate may say
-pub record IsCertificateInRange (v : Certificate) : Type 0 where
-  pub chain : IsChainInRange v.chain
+-- what a certificate may say at these limits, and at those of version 1
+pub record IsCertificateWithin (m : Limits) (v : Certificate) : Type 0 where
+  pub chain : IsChainWithin m v.chain
   pub value : IsValueInRange v.value
   pub some_copies : 1 ≤ v.copies
-  pub few_copies : v.copies ≤ MAX_COPIES
-  pub few_sides : length v.sides ≤ MAX_SIDES
-  pub sides : AllByRecursion IsSideInRange v.sides
+  pub few_copies : v.copies ≤ m.copies
+  pub few_sides : length v.sides ≤ m.sides
+  pub sides : AllByRecursion (IsSideWithin m) v.sides
   pub list : IsSmallList v.list
   pub counts : FitsCounts (length v.chain) (length (pairs v.chain)) v.list
   pub rows : length v.tables ≡ positions v.chain
   pub tables : AllByRecursion (IsTableInRange (positions v.chain)) v.tables
-  pub few_pivots : length v.journal ≤ MAX_PIVOTS
+  pub few_pivots : length v.journal ≤ m.pivots
   pub journal : AllByRecursion (IsPivotInRange v.chain) v.journal
+
+abbrev pub IsCertificateInRange : Certificate → Type 0
+IsCertificateInRange v = IsCertificateWithin VERSION_1 v

@@ -9,6 +9,7 @@ front_so_far r = record {
   name = r.lines.second.name.now;
   most = r.lines.second.most;
   letters = r.lines.second.kind.letters;
+  limits = r.lines.second.kind.limits;
   words = record { count = r.lines.second.count; items = r.lines.second.values.items };
 }
 

@@ -39,6 +39,7 @@ impl Front {
     {
         let words = WordLines {
             letters: VERSION_1.positions,
+            limits: VERSION_1,
         };
         Front {
             lines: Pair {

@@ -120,6 +120,7 @@ fn new_body(alloc: Global, limits: &Limits) -> Body
         low: 1,
         high: limits.copies,
     };
+    let sides = SideLines { limits: *limits };
     Pair {
         first: Free {
             part: One::new(copies),
@@ -127,7 +128,7 @@ fn new_body(alloc: Global, limits: &Limits) -> Body
         },
         second: Pair {
             first: Free {
-                part: Counted::new(alloc, b"sides", limits.sides, SideLines),
+                part: Counted::new(alloc, b"sides", limits.sides, sides),
                 of: PhantomData,
             },
             second: Pair {

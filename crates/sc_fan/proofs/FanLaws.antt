@@ -19,13 +19,14 @@ use Rattle.sc_line.specs.Forms.{Both, and_also, LineKind, IsLawful, literal_due,
 use Rattle.sc_line.proofs.NumberLaws.{good_literal, literal_inverse}
 use Rattle.sc_line.proofs.FormatLaws.{line_told, short_more}
 use Rattle.sc_line.proofs.FormLaws.{AllAfter, AreCounted, AreAll, lines_map, lawful_both, lawful_as, lawful_where, lawful_one, lawful_literal, lawful_counted, lawful_all}
-use Rattle.sc_text.specs.Words.{word_line, IsWordInRange, FitsIn}
+use Rattle.sc_text.specs.Words.{word_line}
+use Rattle.sc_text.specs.declared.limits.TheConstants.{VERSION_1}
 use Rattle.sc_text.specs.PriceLines.{a_scale, a_base, a_pair, scale_line, base_line, pair_line, IsScaleInRange, IsPriceInRange}
 use Rattle.sc_text.specs.Parts.{scale_form, bases_form, pairs_form}
-use Rattle.sc_text.specs.Surfaces.{ending}
-use Rattle.sc_text.proofs.KindLaws.{word_kind, scale_kind, base_kind, pair_kind}
+use Rattle.sc_text.specs.Surfaces.{ending, IsChainFor}
+use Rattle.sc_text.proofs.KindLaws.{scale_kind, base_kind, pair_kind}
 use Rattle.sc_text.proofs.FeedLaws.{lacks-word_line, lacks-numbers_line, lacks-pair_line}
-use Rattle.sc_text.proofs.SurfaceLaws.{IsChainFor, word_kinds, positions-push}
+use Rattle.sc_text.proofs.SurfaceLaws.{word_kinds, lawful_chain as lawful_chain_of_text}
 use Rattle.sc_certificate.specs.Spelled.{list_lines}
 use Rattle.sc_cone.specs.declared.Quadrant.{Quadrant}
 use Rattle.sc_cone.specs.declared.Quadrant.TheVariants.{Lower, Upper}
@@ -83,38 +84,12 @@ count_lacks name h n = lacks-numbers_line name (pos n ∷ []) h
 
 -- ---- chains
 
-words_after : (most : ℕ) (before c : Chain) → AllByRecursion IsWordInRange c → positions before + positions c ≤ most → AllAfter (λ b. FitsIn (most - positions b)) before c
-words_after most before [] h few = tt
-words_after most before (w ∷ c) h few =
-    let first : positions (w ∷ c) ≡ length w.1 + positions c = positions-cons w c in
-    let more : positions (before ++ w ∷ []) ≡ positions before + length w.1 = positions-push before w in
-    (record { in_range = h.0; fits = omega arith }, words_after most (before ++ w ∷ []) c h.1 (omega arith))
-
-record AreWords (most : ℕ) (before c : Chain) : Type 0 where
-  words : AllByRecursion IsWordInRange c
-  few : positions before + positions c ≤ most
-
-words_of : (most : ℕ) (before c : Chain) → AllAfter (λ b. FitsIn (most - positions b)) before c → positions before ≤ most → AreWords most before c
-words_of most before [] h few = record { words = tt; few = omega arith }
-words_of most before (w ∷ c) h few =
-    let fits : length w.1 ≤ most - positions before = h.0.fits in
-    let first : positions (w ∷ c) ≡ length w.1 + positions c = positions-cons w c in
-    let more : positions (before ++ w ∷ []) ≡ positions before + length w.1 = positions-push before w in
-    let rest = words_of most (before ++ w ∷ []) c h.1 (omega arith) in
-    let below = rest.few in
-    record { words = (h.0.in_range, rest.words); few = omega arith }
-
 -- the lines of a chain under a name are lawful: they tell the chains of so many words and letters at most
-pub lawful_chain : (name : List ℕ) (words letters : ℕ) → lacks 32 name ≡ true → lacks 10 name ≡ true → IsLawful (chain_lines name) (chain_due name words letters) (IsChainFor words letters) (suc words)
+pub lawful_chain : (name : List ℕ) (words letters : ℕ) → lacks 32 name ≡ true → lacks 10 name ≡ true → IsLawful (chain_lines name) (chain_due name words letters) (IsChainFor VERSION_1 words letters) (suc words)
 lawful_chain name words letters named unended =
-    let Range : Chain → ℕ × Word → Type 0 = λ b. FitsIn (letters - positions b) in
-    let kinds : (b : Chain) → _ = λ b. word_kind (letters - positions b) in
-    lawful_same (λ c. count_line name (length c) ∷ lines_after (word_kinds letters) [] c) (chain_lines name) (chain_due name words letters) (IsChainFor words letters) (suc words)
-    (lawful_where (λ c. count_line name (length c) ∷ lines_after (word_kinds letters) [] c) (chain_due name words letters) (AreCounted (word_kinds letters) (λ b. FitsIn (letters - positions b)) (λ b. word_kind (letters - positions b)) (λ b. lacks-word_line) words) (IsChainFor words letters) (suc words)
-    (lawful_counted (word_kinds letters) (λ b. FitsIn (letters - positions b)) (λ b. word_kind (letters - positions b)) (λ b. lacks-word_line) name words named (count_lacks name unended))
-    (λ c h. let all = words_of letters [] c h.in_range (omega arith) in let few = all.few in record { count = h.few; words_in = all.words; letters = omega arith })
-    (λ c h. record { few = h.count; in_range = words_after letters [] c h.words_in (omega (arith, h.letters)) }))
-    (λ c h. ap (λ (ls : List Line). count_line name (length c) ∷ ls) (lines_map (word_kinds letters) word_line (λ b w. refl) [] c))
+    lawful_same (λ c. count_line name (length c) ∷ lines_after (word_kinds VERSION_1 letters) [] c) (chain_lines name) (chain_due name words letters) (IsChainFor VERSION_1 words letters) (suc words)
+    (lawful_chain_of_text VERSION_1 name words letters (omega arith) named unended)
+    (λ c h. ap (λ (ls : List Line). count_line name (length c) ∷ ls) (lines_map (word_kinds VERSION_1 letters) word_line (λ b w. refl) [] c))
 
 -- ---- the chains of the quadrants
 
@@ -295,7 +270,7 @@ abbrev all_due : Format Told
 all_due = both_due (literal_due heading false) (λ u. from_first)
 
 abbrev IsSecond : Chain → Chain → Type 0
-IsSecond a b = IsChainFor (MAX_WORDS - length a) (MAX_POSITIONS - positions a) b
+IsSecond a b = IsChainFor VERSION_1 (MAX_WORDS - length a) (MAX_POSITIONS - positions a) b
 
 lawful_second : (a : Chain) → IsLawful (chain_lines (codes "second")) (second_due a) (IsSecond a) (suc MAX_WORDS)
 lawful_second a =
@@ -304,7 +279,7 @@ lawful_second a =
 
 abbrev IsToldFor : Told → Type 0
 IsToldFor v =
-    Unit {0} × (IsChainFor MAX_WORDS MAX_POSITIONS v.second.first × (IsSecond v.second.first v.second.second.first
+    Unit {0} × (IsChainFor VERSION_1 MAX_WORDS MAX_POSITIONS v.second.first × (IsSecond v.second.first v.second.second.first
     × (AreCorners v.second.second.second.first × (AreEdges v.second.first v.second.second.first v.second.second.second.first v.second.second.second.second.first × Unit {0}))))
 
 abbrev after_corners : Chain → Chain → List PlaneCorner → Both (List Prices) (Unit {0}) → List Line
@@ -338,8 +313,8 @@ fan_in_range v h =
     let letters = h.1.0.letters in
     let more_letters = h.1.1.0.letters in
     record {
-      first = h.1.0.words_in;
-      second = h.1.1.0.words_in;
+      first = h.1.0.words;
+      second = h.1.1.0.words;
       few_words = omega arith;
       few_letters = omega arith;
       some_corners = h.1.1.1.0.some;
@@ -355,9 +330,9 @@ in_range_told v h =
     let letters = h.few_letters in (
       tt,
       (
-        record { count = omega arith; words_in = h.first; letters = omega arith },
+        record { count = omega arith; words = h.first; letters = omega arith },
         (
-          record { count = omega arith; words_in = h.second; letters = omega arith },
+          record { count = omega arith; words = h.second; letters = omega arith },
           (
             record { some = h.some_corners; few = h.few_corners; all = h.corners },
             (record { one_fewer = h.one_fewer; all = h.lists }, tt),

@@ -25,12 +25,13 @@ use Rattle.sc_line.specs.Formats.{Format, told}
 use Rattle.sc_line.specs.Forms.{LineKind, one_due, many_due, count_kind, literal_due, and_then, both_due, and_also}
 use Rattle.sc_line.proofs.FormLaws.{lawful_all, lawful_one, AreAll}
 use Rattle.sc_line.proofs.PartLaws.{all_is}
+use Rattle.sc_text.specs.declared.limits.TheConstants.{VERSION_1}
 use Rattle.sc_text.specs.PriceLines.{a_scale, a_base, a_pair, IsScaleInRange, IsPriceInRange}
 use Rattle.sc_text.specs.Parts.{bases_form, pairs_form}
-use Rattle.sc_text.specs.Surfaces.{ending, IsChainInRange}
+use Rattle.sc_text.specs.Surfaces.{ending, IsChainFor, IsChainInRange}
 use Rattle.sc_text.proofs.KindLaws.{base_kind, pair_kind}
 use Rattle.sc_text.proofs.FeedLaws.{lacks-numbers_line, lacks-pair_line}
-use Rattle.sc_text.proofs.SurfaceLaws.{IsChainFor, word_kinds}
+use Rattle.sc_text.proofs.SurfaceLaws.{word_kinds}
 use Rattle.sc_certificate.specs.Sizes.{IsSmallList, list_of}
 use Rattle.sc_fan.specs.declared.corner.Corner.{Corner}
 use Rattle.sc_fan.specs.declared.fan.Edge.{Edge}
@@ -150,7 +151,7 @@ module _ {A : Type 0} (block : List A → Format A) (n : ℕ) (s : LinesLeft) wh
 -- ---- chains
 
 abbrev pub words_due : ℕ → ℕ → Format Chain
-words_due letters n = many_due (word_kinds letters) n []
+words_due letters n = many_due (word_kinds VERSION_1 letters) n []
 
 module _ (name : List ℕ) (words letters : ℕ) (s : LinesLeft) where
   -- a chain fails where its count or its words fail, and else is taken with its words
@@ -165,24 +166,24 @@ module _ (name : List ℕ) (words letters : ℕ) (s : LinesLeft) where
     chain_taken c u h = onward (one_due (count_kind name 0 words) None) (words_due letters) s t n counted ∙ h
 
   -- a chain that was taken is within its limits
-  pub chain_for : (c : Chain) (u : LinesLeft) → lacks 32 name ≡ true → lacks 10 name ≡ true → taken (chain_due name words letters) s ≡ Ok (c, u) → IsChainFor words letters c
-  chain_for c u named unended h = in_range_of (chain_lines name) (chain_due name words letters) (IsChainFor words letters) (suc words) (lawful_chain name words letters named unended) s u c h
+  pub chain_for : (c : Chain) (u : LinesLeft) → lacks 32 name ≡ true → lacks 10 name ≡ true → taken (chain_due name words letters) s ≡ Ok (c, u) → IsChainFor VERSION_1 words letters c
+  chain_for c u named unended h = in_range_of (chain_lines name) (chain_due name words letters) (IsChainFor VERSION_1 words letters) (suc words) (lawful_chain name words letters named unended) s u c h
 
 -- a chain within limits that are no greater than those of all chains is in its range
-pub small_chain : (words letters : ℕ) (c : Chain) → words ≤ MAX_WORDS → letters ≤ MAX_POSITIONS → IsChainFor words letters c → IsChainInRange c
+pub small_chain : (words letters : ℕ) (c : Chain) → words ≤ MAX_WORDS → letters ≤ MAX_POSITIONS → IsChainFor VERSION_1 words letters c → IsChainInRange c
 small_chain words letters c few_words few_letters h =
     let count = h.count in
     let size = h.letters in
-    record { count = omega arith; words = h.words_in; letters = omega arith }
+    record { count = omega arith; words = h.words; letters = omega arith }
 
 -- the chains of the quadrants of two chains
-pub quadrants_in_range : (a b : Chain) (q : Quadrant) → IsChainInRange a → IsChainFor (MAX_WORDS - length a) (MAX_POSITIONS - positions a) b → IsChainInRange (quadrant_chain q a b)
+pub quadrants_in_range : (a b : Chain) (q : Quadrant) → IsChainInRange a → IsChainFor VERSION_1 (MAX_WORDS - length a) (MAX_POSITIONS - positions a) b → IsChainInRange (quadrant_chain q a b)
 quadrants_in_range a b q h k =
     let words = h.count in
     let more_words = k.count in
     let letters = h.letters in
     let more_letters = k.letters in
-    quadrant_words_in_range a b q h.words k.words_in (omega arith) (omega arith)
+    quadrant_words_in_range a b q h.words k.words (omega arith) (omega arith)
 
 -- ---- price lists
 

@@ -11,6 +11,7 @@ use Rattle.sc_line.specs.Lines.{Line, text_of, count_line}
 use Rattle.sc_line.specs.Faults.{Plan}
 use Rattle.sc_line.specs.Formats.{Format, told, plan_of}
 use Rattle.sc_line.specs.Forms.{Both, and_also, literal_due, many_due, counted_from, both, and_then, as_form}
+use Rattle.sc_text.specs.declared.limits.TheConstants.{VERSION_1}
 use Rattle.sc_text.specs.Words.{word_line, a_word, IsWordInRange}
 use Rattle.sc_text.specs.Parts.{scale_form, bases_form, pairs_form}
 use Rattle.sc_text.specs.Surfaces.{ending}
@@ -75,7 +76,7 @@ fan_text v = text_of (fan_lines v)
 
 -- a chain under a name, of at most so many words and letters
 abbrev pub chain_due : List ℕ → ℕ → ℕ → Format Chain
-chain_due name words letters = counted_from name words (λ c. a_word (letters - positions c)) None []
+chain_due name words letters = counted_from name words (λ c. a_word VERSION_1 (letters - positions c)) None []
 
 abbrev pub second_due : Chain → Format Chain
 second_due a = chain_due (codes "second") (MAX_WORDS - length a) (MAX_POSITIONS - positions a)

@@ -5,6 +5,7 @@ ghost use Rattle.sc_theory.specs.Chains.{positions};
 ghost use Rattle.sc_chain.specs.declared.limits.TheConstants.{MAX_POSITIONS, MAX_WORDS};
 ghost use Rattle.sc_line.specs.declared.fault.TextFault.TheVariants as text_faults;
 ghost use Rattle.sc_line.specs.Lines.{lacks};
+ghost use Rattle.sc_text.specs.declared.limits.TheConstants.{VERSION_1 as version_1};
 ghost use Rattle.sc_text.specs.Words.{a_word};
 ghost use Rattle.sc_text.specs.Surfaces.{IsChainInRange};
 ghost use Rattle.sc_fan.specs.Fans.{chain_due};
@@ -14,6 +15,7 @@ use crate::lines::Lines;
 use sc_chain::{Chain, ChainFault, Word};
 use sc_line::{LineFault, LineItem, NumberedItem, TextFault};
 use sc_text::WordLines;
+use sc_text::limits::VERSION_1;
 use std::alloc::Global;
 
 // The lines of so many words, which may have so many letters together.
@@ -28,7 +30,7 @@ impl NumberedItem for Words {
 
     type Value = (u32, Word);
 
-    ghost kind = { λ k c before. a_word (k.letters - positions before) };
+    ghost kind = { λ k c before. a_word version_1 (k.letters - positions before) };
 
     ghost count_of = { λ k c. k.count };
 
@@ -45,6 +47,7 @@ impl NumberedItem for Words {
     ) -> Result<(u32, Word), LineFault> {
         let words = WordLines {
             letters: self.letters,
+            limits: VERSION_1,
         };
         words.read(alloc, line, before, context)
     }

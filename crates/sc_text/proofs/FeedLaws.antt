@@ -3,7 +3,7 @@ use Rattle.std.proofs.Common.{◌≡◌, ℕ, true, List, [], ◌∷◌, ◌++�
 use Rattle.sc_whole.specs.Spelling.{spelling}
 use Rattle.sc_theory.specs.declared.Side.{Side}
 use Rattle.sc_theory.specs.Words.{Word}
-use Rattle.sc_line.specs.Lines.{Line, Field, spaced, numbers_line, lacks, AllLack}
+use Rattle.sc_line.specs.Lines.{Field, spaced, numbers_line, lacks, AllLack}
 use Rattle.sc_line.proofs.LineLaws.{lacks-append, lacks-spelling}
 use Rattle.sc_text.specs.Words.{word_line, spelled}
 use Rattle.sc_text.specs.Sides.{side_line}

@@ -10,20 +10,22 @@ use Rattle.sc_whole.specs.Spelling.{spelling}
 use Rattle.sc_fraction.specs.Quotient.{quotient_text}
 use Rattle.sc_line.specs.declared.fault.Kind.{Kind}
 use Rattle.sc_line.specs.declared.fault.Kind.TheVariants.{Form, Range, NotReduced}
-use Rattle.sc_words.specs.Spelling.{word_of}
-use Rattle.sc_text.specs.declared.limits.TheConstants.{MAX_PRICE, MAX_VALUE, MAX_WEIGHT, MAX_LABEL, MAX_SIDE}
+use Rattle.sc_words.specs.declared.limits.TheConstants.{GENERATORS}
+use Rattle.sc_text.specs.declared.limits.Limits.{Limits}
+use Rattle.sc_text.specs.declared.limits.TheConstants.{MAX_PRICE, MAX_VALUE}
 use Rattle.sc_line.specs.Lines.{Line, Field, fields, spaced, numbers_line, number_of, lacks}
-use Rattle.sc_line.specs.Faults.{NumberRange, from_to, between, numbers_fault, numbers_line_fault, named_fault}
+use Rattle.sc_line.specs.Faults.{NumberRange, from_to, between, numbers_fault, numbers_line_fault}
 use Rattle.sc_line.specs.Formats.{IsLineKind}
-use Rattle.sc_text.specs.Words.{word_line, spelled, is_reduced, IsWordInRange, FitsIn, weight_and_word_fault, weighted_word_fault, word_fields_fault, word_fault, word_of_line}
-use Rattle.sc_text.specs.Sides.{side_line, IsSideInRange, side_fault, side_of_line}
+use Rattle.sc_line.specs.Forms.{Tells}
+use Rattle.sc_text.specs.Words.{word_line, spelled, is_reduced, IsWordWithin, FitsIn, word_within, weight_and_word_fault, weighted_word_fault, word_fields_fault, word_fault, word_of_line, a_word}
+use Rattle.sc_text.specs.Sides.{side_line, IsSideWithin, side_ranges, side_fault, side_of_line}
 use Rattle.sc_text.specs.PriceLines.{of_size, number_of_line, known_fault, scale_fault, scale_of_line, scale_line, IsScaleInRange, base_fault, base_of_line, base_line, IsPriceInRange, pair_fault, pair_price_of_line, pair_line}
 use Rattle.sc_text.specs.ValueLines.{Quotient, value_fields_fault, value_fault, value_of_line, value_line, IsValueInRange}
 use Rattle.sc_text.specs.TableLines.{Entry, entry_field, is_entry, is_entry_in_range, entries_fault, from_fault, entries_of_line, from_line, IsTableInRange}
 use Rattle.sc_line.proofs.LineLaws.{lacks-append, number_of_is, fields-spaced, lacks-spelling, number_of-spelling, same_bytes, named_is, line_from_fields, IsFromTo, in_range_test, in_range_from_test}
 use Rattle.sc_line.proofs.NumberLaws.{IsLineOf, kind_from, between-natural, natural_from, InRanges, named_from, named_inverse, numbers_inverse}
 use Rattle.sc_text.proofs.ValueLaws.{halves-quotient_text, good_fraction, fraction_from}
-use Rattle.sc_text.proofs.WordLaws.{lacks-spelled, word_again, word_fault_none, nonempty_word, spelled_back, reduced_from}
+use Rattle.sc_text.proofs.WordLaws.{lacks-spelled, word_again, again_within, spelled_generators, within_parts, letters_within, word_fault_none, nonempty_word, spelled_back, reduced_from}
 use Rattle.sc_text.proofs.EntryLaws.{entry_fields_lack, fields_are_entries, entries_of_fields, entries_in_range, entries_from_tests}
 
 -- ---- words and sides
@@ -39,65 +41,66 @@ fields-side_line s =
     (refl, (lacks-spelling 32 (pos s.label) (omega arith), (lacks-spelling 32 (pos s.mate) (omega arith), (lacks-spelling 32 (pos s.next) (omega arith), tt))))
 
 -- the line of a side in range has no fault
-pub good_side : (s : Side) → IsSideInRange s → numbers_line_fault (codes "side") (between 0 MAX_LABEL ∷ between 0 MAX_SIDE ∷ between 0 MAX_SIDE ∷ []) (side_line s) ≡ None
-good_side s h =
-    named_is (codes "side") (numbers_fault (between 0 MAX_LABEL ∷ between 0 MAX_SIDE ∷ between 0 MAX_SIDE ∷ [])) (side_line s) _ (fields-side_line s)
-    ∙ rw (number_of-spelling (pos s.label), number_of-spelling (pos s.mate), number_of-spelling (pos s.next), between-natural 0 MAX_LABEL s.label (omega arith) h.label, between-natural 0 MAX_SIDE s.mate (omega arith) h.mate, between-natural 0 MAX_SIDE s.next (omega arith) h.next) refl
+pub good_side : (m : Limits) (s : Side) → IsSideWithin m s → side_fault m (side_line s) ≡ None
+good_side m s h =
+    named_is (codes "side") (numbers_fault (side_ranges m)) (side_line s) _ (fields-side_line s)
+    ∙ rw (number_of-spelling (pos s.label), number_of-spelling (pos s.mate), number_of-spelling (pos s.next), between-natural 0 m.label s.label (omega arith) h.label, between-natural 0 m.side s.mate (omega arith) h.mate, between-natural 0 m.side s.next (omega arith) h.next) refl
 
 -- the line of a word in range, of at most as many letters as there is room for, has no fault
-pub good_word : (room : ℕ) (w : ℕ × Word) → IsWordInRange w → length w.1 ≤ room → named_fault (codes "word") (word_fields_fault room) (word_line w) ≡ None
-good_word room w h fits =
-    named_is (codes "word") (word_fields_fault room) (word_line w) _ (fields-word_line w)
-    ∙ rw (number_of-spelling (pos w.0), word_again w.1 h.letters) (nonempty_word room (pos w.0) w.1 h.some ∙ word_fault_none room w.0 w.1 h.low h.high fits h.reduced)
+pub good_word : (m : Limits) (room : ℕ) (w : ℕ × Word) → m.generators ≤ GENERATORS → IsWordWithin m w → length w.1 ≤ room → word_fault m room (word_line w) ≡ None
+good_word m room w few h fits =
+    named_is (codes "word") (word_fields_fault m room) (word_line w) _ (fields-word_line w)
+    ∙ rw (number_of-spelling (pos w.0), again_within m.generators w.1 (spelled_generators m.generators w.1 few h.letters) h.letters) (nonempty_word m room (pos w.0) w.1 h.some ∙ word_fault_none m room w.0 w.1 h.low h.high fits h.reduced)
 
 -- a line is that of a side in range
-pub record IsSideLine (line : Line) : Type 0 where
+pub record IsSideLine (m : Limits) (line : Line) : Type 0 where
   pub side : Side
   pub is : line ≡ side_line side
-  pub in_range : IsSideInRange side
+  pub in_range : IsSideWithin m side
 
-side_from : (line : Line) (zs : List ℤ) → fields line ≡ codes "side" ∷ map spelling zs → InRanges (between 0 MAX_LABEL ∷ between 0 MAX_SIDE ∷ between 0 MAX_SIDE ∷ []) zs → IsSideLine line
-side_from line [] e h = absurd h
-side_from line (a ∷ []) e h = absurd h.1
-side_from line (a ∷ b ∷ []) e h = absurd h.1.1
-side_from line (a ∷ b ∷ c ∷ []) e h =
-    let label = natural_from 0 MAX_LABEL a h.0 in
-    let mate = natural_from 0 MAX_SIDE b h.1.0 in
-    let next = natural_from 0 MAX_SIDE c h.1.1.0 in
+side_from : (m : Limits) (line : Line) (zs : List ℤ) → fields line ≡ codes "side" ∷ map spelling zs → InRanges (side_ranges m) zs → IsSideLine m line
+side_from m line [] e h = absurd h
+side_from m line (a ∷ []) e h = absurd h.1
+side_from m line (a ∷ b ∷ []) e h = absurd h.1.1
+side_from m line (a ∷ b ∷ c ∷ []) e h =
+    let label = natural_from 0 m.label a h.0 in
+    let mate = natural_from 0 m.side b h.1.0 in
+    let next = natural_from 0 m.side c h.1.1.0 in
     record {
       side = record { label = label.natural; mate = mate.natural; next = next.natural };
       is = line_from_fields line _ e ∙ (λ i. spaced (codes "side" ∷ spelling (label.is i) ∷ spelling (mate.is i) ∷ spelling (next.is i) ∷ []));
       in_range = record { label = label.high_end; mate = mate.high_end; next = next.high_end };
     }
-side_from line (a ∷ b ∷ c ∷ d ∷ zs) e h = absurd h.1.1.1
+side_from m line (a ∷ b ∷ c ∷ d ∷ zs) e h = absurd h.1.1.1
 
 -- a line of a side without a fault is that of a side in range
-pub side_inverse : (line : Line) → side_fault line ≡ None → IsSideLine line
-side_inverse line h =
-    let rs : List NumberRange = between 0 MAX_LABEL ∷ between 0 MAX_SIDE ∷ between 0 MAX_SIDE ∷ [] in
+pub side_inverse : (m : Limits) (line : Line) → side_fault m line ≡ None → IsSideLine m line
+side_inverse m line h =
+    let rs : List NumberRange = side_ranges m in
     let named = named_inverse (codes "side") (numbers_fault rs) line h in
     let numbers = numbers_inverse rs named.rest named.good in
-    side_from line numbers.numbers (named.fields ∙ ap (λ (fs : List Field). codes "side" ∷ fs) numbers.fields) numbers.in_range
+    side_from m line numbers.numbers (named.fields ∙ ap (λ (fs : List Field). codes "side" ∷ fs) numbers.fields) numbers.in_range
 
 -- a line is that of a word in range, of at most as many letters as there is room for
-pub record IsWordLine (room : ℕ) (line : Line) : Type 0 where
+pub record IsWordLine (m : Limits) (room : ℕ) (line : Line) : Type 0 where
   pub word : ℕ × Word
   pub is : line ≡ word_line word
-  pub in_range : IsWordInRange word
+  pub in_range : IsWordWithin m word
   pub fits : length word.1 ≤ room
 
-word_good : (room : ℕ) (z : ℤ) (x : _) (w : Word) (line : Line) (letters : Field) → fields line ≡ codes "word" ∷ spelling z ∷ letters ∷ [] → word_of letters ≡ Some (x ∷ w) → weight_and_word_fault room z (x ∷ w) ≡ None → IsWordLine room line
-word_good room z x w line letters e read h =
-    elim (cases_Bool (between 1 MAX_WEIGHT z && leb (length (x ∷ w)) room)) [
+word_good : (m : Limits) (room : ℕ) (z : ℤ) (x : _) (w : Word) (line : Line) (letters : Field) → fields line ≡ codes "word" ∷ spelling z ∷ letters ∷ [] → word_within m.generators letters ≡ Some (x ∷ w) → weight_and_word_fault m room z (x ∷ w) ≡ None → IsWordLine m room line
+word_good m room z x w line letters e read h =
+    elim (cases_Bool (between 1 m.weight z && leb (length (x ∷ w)) room)) [
       | inl in_range ↦
-          let both = and_parts (between 1 MAX_WEIGHT z) (leb (length (x ∷ w)) room) in_range in
-          let weight = natural_from 1 MAX_WEIGHT z both.0 in
-          let spells = spelled_back letters (x ∷ w) read in
+          let both = and_parts (between 1 m.weight z) (leb (length (x ∷ w)) room) in_range in
+          let weight = natural_from 1 m.weight z both.0 in
+          let within = within_parts m.generators letters (x ∷ w) read in
+          let spells = spelled_back letters (x ∷ w) within.word in
           elim (cases_Bool (is_reduced (x ∷ w))) [
             | inl reduced ↦ record {
               word = (weight.natural, x ∷ w);
               is = line_from_fields line _ e ∙ (λ i. spaced (codes "word" ∷ spelling (weight.is i) ∷ sym spells.bytes i ∷ []));
-              in_range = record { low = weight.low_end; high = weight.high_end; letters = spells.letters; some = (λ none. absurd cc); reduced = reduced_from (x ∷ w) reduced };
+              in_range = record { low = weight.low_end; high = weight.high_end; letters = letters_within m.generators letters (x ∷ w) within; some = (λ none. absurd cc); reduced = reduced_from (x ∷ w) reduced };
               fits = leb-true (length (x ∷ w)) room both.1;
             }
             | inr unreduced ↦ absurd (none-some NotReduced (sym (let fault : Some NotReduced ≡ None = rw (in_range, unreduced) at h in fault)))
@@ -105,35 +108,46 @@ word_good room z x w line letters e read h =
       | inr outside ↦ absurd (none-some Range (sym (let fault : Some Range ≡ None = rw outside at h in fault)))
     ]
 
-word_from : (room : ℕ) (weight : Option ℤ) (word : Option Word) (line : Line) (f letters : Field) → fields line ≡ codes "word" ∷ f ∷ letters ∷ [] → number_of f ≡ weight → word_of letters ≡ word → weighted_word_fault room weight word ≡ None → IsWordLine room line
-word_from room None word line f letters e n w h = absurd (none-some Form (sym h))
-word_from room (Some z) None line f letters e n w h = absurd (none-some Form (sym h))
-word_from room (Some z) (Some []) line f letters e n w h = absurd (none-some Form (sym h))
-word_from room (Some z) (Some (x ∷ v)) line f letters e n w h =
-    word_good room z x v line letters (e ∙ ap (λ (g : Field). codes "word" ∷ g ∷ letters ∷ []) (number_of_is f z n)) w h
+word_from : (m : Limits) (room : ℕ) (weight : Option ℤ) (word : Option Word) (line : Line) (f letters : Field) → fields line ≡ codes "word" ∷ f ∷ letters ∷ [] → number_of f ≡ weight → word_within m.generators letters ≡ word → weighted_word_fault m room weight word ≡ None → IsWordLine m room line
+word_from m room None word line f letters e n w h = absurd (none-some Form (sym h))
+word_from m room (Some z) None line f letters e n w h = absurd (none-some Form (sym h))
+word_from m room (Some z) (Some []) line f letters e n w h = absurd (none-some Form (sym h))
+word_from m room (Some z) (Some (x ∷ v)) line f letters e n w h =
+    word_good m room z x v line letters (e ∙ ap (λ (g : Field). codes "word" ∷ g ∷ letters ∷ []) (number_of_is f z n)) w h
 
-word_of_fields : (room : ℕ) (line : Line) (fs : List Field) → fields line ≡ codes "word" ∷ fs → word_fields_fault room fs ≡ None → IsWordLine room line
-word_of_fields room line [] e h = absurd (none-some Form (sym h))
-word_of_fields room line (f ∷ []) e h = absurd (none-some Form (sym h))
-word_of_fields room line (f ∷ letters ∷ []) e h = word_from room (number_of f) (word_of letters) line f letters e refl refl h
-word_of_fields room line (f ∷ letters ∷ g ∷ fs) e h = absurd (none-some Form (sym h))
+word_of_fields : (m : Limits) (room : ℕ) (line : Line) (fs : List Field) → fields line ≡ codes "word" ∷ fs → word_fields_fault m room fs ≡ None → IsWordLine m room line
+word_of_fields m room line [] e h = absurd (none-some Form (sym h))
+word_of_fields m room line (f ∷ []) e h = absurd (none-some Form (sym h))
+word_of_fields m room line (f ∷ letters ∷ []) e h = word_from m room (number_of f) (word_within m.generators letters) line f letters e refl refl h
+word_of_fields m room line (f ∷ letters ∷ g ∷ fs) e h = absurd (none-some Form (sym h))
 
 -- a line of a word without a fault is that of such a word
-pub word_inverse : (room : ℕ) (line : Line) → word_fault room line ≡ None → IsWordLine room line
-word_inverse room line h =
-    let named = named_inverse (codes "word") (word_fields_fault room) line h in
-    word_of_fields room line named.rest named.fields named.good
+pub word_inverse : (m : Limits) (room : ℕ) (line : Line) → word_fault m room line ≡ None → IsWordLine m room line
+word_inverse m room line h =
+    let named = named_inverse (codes "word") (word_fields_fault m room) line h in
+    word_of_fields m room line named.rest named.fields named.good
 
-word_of_line-word_line : (w : ℕ × Word) → IsWordInRange w → word_of_line (word_line w) ≡ w
-word_of_line-word_line w h = rw (fields-word_line w, number_of-spelling (pos w.0), word_again w.1 h.letters) refl
+word_of_line-word_line : (m : Limits) (w : ℕ × Word) → m.generators ≤ GENERATORS → IsWordWithin m w → word_of_line (word_line w) ≡ w
+word_of_line-word_line m w few h =
+    rw (fields-word_line w, number_of-spelling (pos w.0), word_again w.1 (spelled_generators m.generators w.1 few h.letters)) refl
+
+-- a line that is read as a word that may come tells it
+pub tells_word : (m : Limits) (room : ℕ) (line : Line) (w : ℕ × Word) (letters : Field) → fields line ≡ codes "word" ∷ spelling (pos w.0) ∷ letters ∷ [] → IsWordWithin m w → length w.1 ≤ room → word_within m.generators letters ≡ Some w.1
+    → Tells (a_word m room) line w
+tells_word m room line w letters e h fits read = record {
+  good =
+      named_is (codes "word") (word_fields_fault m room) line _ e
+      ∙ rw (number_of-spelling (pos w.0), read) (nonempty_word m room (pos w.0) w.1 h.some ∙ word_fault_none m room w.0 w.1 h.low h.high fits h.reduced);
+  value_is = rw (e, number_of-spelling (pos w.0), (within_parts m.generators letters w.1 read).word) refl;
+}
 
 -- the lines of words without a fault are exactly those of the words that may come, and tell them
-pub word_kind : (room : ℕ) → IsLineKind (word_fault room) word_of_line word_line (FitsIn room)
-word_kind room =
-    kind_from (word_fault room) word_of_line word_line (FitsIn room)
-    (λ w fits. good_word room w fits.in_range fits.fits)
-    (λ w fits. word_of_line-word_line w fits.in_range)
-    (λ line good. let w = word_inverse room line good in record {
+pub word_kind : (m : Limits) (room : ℕ) → m.generators ≤ GENERATORS → IsLineKind (word_fault m room) word_of_line word_line (FitsIn m room)
+word_kind m room few =
+    kind_from (word_fault m room) word_of_line word_line (FitsIn m room)
+    (λ w fits. good_word m room w few fits.in_range fits.fits)
+    (λ w fits. word_of_line-word_line m w few fits.in_range)
+    (λ line good. let w = word_inverse m room line good in record {
       told = w.word;
       is = w.is;
       in_range = record { in_range = w.in_range; fits = w.fits };
@@ -143,10 +157,10 @@ side_of_line-side_line : (s : Side) → side_of_line (side_line s) ≡ s
 side_of_line-side_line s = rw (fields-side_line s, number_of-spelling (pos s.label), number_of-spelling (pos s.mate), number_of-spelling (pos s.next)) refl
 
 -- the same of sides in range
-pub side_kind : IsLineKind side_fault side_of_line side_line IsSideInRange
-side_kind =
-    kind_from side_fault side_of_line side_line IsSideInRange good_side (λ s in_range. side_of_line-side_line s)
-    (λ line good. let s = side_inverse line good in record { told = s.side; is = s.is; in_range = s.in_range })
+pub side_kind : (m : Limits) → IsLineKind (side_fault m) side_of_line side_line (IsSideWithin m)
+side_kind m =
+    kind_from (side_fault m) side_of_line side_line (IsSideWithin m) (good_side m) (λ s in_range. side_of_line-side_line s)
+    (λ line good. let s = side_inverse m line good in record { told = s.side; is = s.is; in_range = s.in_range })
 
 -- ---- the scale, and the price of a word
 

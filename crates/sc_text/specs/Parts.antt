@@ -1,5 +1,5 @@
 -- The parts that texts share.
-use Rattle.std.specs.Prelude.{ℕ, ◌-◌, List, [], length, get_or, Option, ℤ, codes}
+use Rattle.std.specs.Prelude.{ℕ, ◌-◌, List, length, get_or, Option, ℤ, codes}
 use Rattle.sc_theory.specs.declared.Side.{Side}
 use Rattle.sc_theory.specs.Words.{Word}
 use Rattle.sc_theory.specs.Chains.{Chain, positions}
@@ -10,17 +10,17 @@ use Rattle.sc_text.specs.declared.limits.Limits.{Limits}
 use Rattle.sc_text.specs.Words.{a_word}
 use Rattle.sc_text.specs.Sides.{a_side}
 use Rattle.sc_text.specs.PriceLines.{a_scale, a_base, a_pair}
-use Rattle.sc_text.specs.TableLines.{Entry, a_table}
+use Rattle.sc_text.specs.TableLines.{a_table}
 
 -- the words of a chain, which have so many letters together at most
 abbrev pub words_form : Limits → Form (Counted (ℕ × Word)) Chain
-words_form m = counted (codes "words") m.words (λ c. a_word (m.positions - positions c))
+words_form m = counted (codes "words") m.words (λ c. a_word m (m.positions - positions c))
 
 abbrev pub copies_form : Limits → Form (Option ℕ) ℕ
 copies_form m = one (count_kind (codes "copies") 1 m.copies)
 
 abbrev pub sides_form : Limits → Form (Counted Side) Sides
-sides_form m = counted (codes "sides") m.sides (λ g. a_side)
+sides_form m = counted (codes "sides") m.sides (λ g. a_side m)
 
 -- a price list: its scale, the prices of n words, and those of these pairs
 abbrev pub scale_form : Form (Option ℤ) ℤ

@@ -9,11 +9,10 @@ use Rattle.sc_line.specs.Lines.{Line, text_of}
 use Rattle.sc_line.specs.Faults.{Plan}
 use Rattle.sc_line.specs.Formats.{Format, plan_of}
 use Rattle.sc_line.specs.Forms.{Form, Both, and_also, Counted, both, literal}
-use Rattle.sc_chain.specs.declared.limits.TheConstants.{MAX_WORDS, MAX_POSITIONS}
 use Rattle.sc_text.specs.declared.limits.Limits.{Limits}
-use Rattle.sc_text.specs.declared.limits.TheConstants.{VERSION_1, MAX_COPIES, MAX_SIDES}
-use Rattle.sc_text.specs.Words.{IsWordInRange}
-use Rattle.sc_text.specs.Sides.{IsSideInRange}
+use Rattle.sc_text.specs.declared.limits.TheConstants.{VERSION_1}
+use Rattle.sc_text.specs.Words.{IsWordWithin}
+use Rattle.sc_text.specs.Sides.{IsSideWithin}
 use Rattle.sc_text.specs.Parts.{words_form, copies_form, sides_form}
 
 abbrev pub heading : Line
@@ -63,16 +62,26 @@ surface_plan = plan_of (surface_due VERSION_1)
 
 -- ---- the ranges
 
--- what a chain in a text may hold
-pub record IsChainInRange (c : Chain) : Type 0 where
-  pub count : length c ≤ MAX_WORDS
-  pub words : AllByRecursion IsWordInRange c
-  pub letters : positions c ≤ MAX_POSITIONS
+-- what a chain may be that has at most so many words and letters
+pub record IsChainFor (m : Limits) (many most : ℕ) (c : Chain) : Type 0 where
+  pub count : length c ≤ many
+  pub words : AllByRecursion (IsWordWithin m) c
+  pub letters : positions c ≤ most
+
+-- what a chain in a text may hold at these limits, and at those of version 1
+abbrev pub IsChainWithin : Limits → Chain → Type 0
+IsChainWithin m c = IsChainFor m m.words m.positions c
+
+abbrev pub IsChainInRange : Chain → Type 0
+IsChainInRange c = IsChainWithin VERSION_1 c
 
 -- what a surface text may hold
-pub record IsSurfaceInRange (c : Chain) (n : ℕ) (g : Sides) : Type 0 where
-  pub chain : IsChainInRange c
+pub record IsSurfaceWithin (m : Limits) (c : Chain) (n : ℕ) (g : Sides) : Type 0 where
+  pub chain : IsChainWithin m c
   pub low : 1 ≤ n
-  pub high : n ≤ MAX_COPIES
-  pub count : length g ≤ MAX_SIDES
-  pub sides : AllByRecursion IsSideInRange g
+  pub high : n ≤ m.copies
+  pub count : length g ≤ m.sides
+  pub sides : AllByRecursion (IsSideWithin m) g
+
+abbrev pub IsSurfaceInRange : Chain → ℕ → Sides → Type 0
+IsSurfaceInRange c n g = IsSurfaceWithin VERSION_1 c n g

@@ -2,7 +2,7 @@
 
 ghost use Rattle.std.specs.Prelude.{◌≡◌, pos};
 
-use sc_chain::limits::{MAX_POSITIONS, MAX_WORDS};
+use sc_chain::limits::{GENERATORS, MAX_POSITIONS, MAX_WORDS};
 
 /// The weight of a word, at least 1.
 pub const MAX_WEIGHT: u32 = 1000;
@@ -38,10 +38,18 @@ pub struct Limits {
     pub words: u32,
     /// The letters that they have together.
     pub positions: usize,
+    /// The generators of their letters, at most as many as letters are spelled for.
+    pub generators: u8,
+    /// The weight of a word.
+    pub weight: u32,
     /// The copies of a surface.
     pub copies: u32,
     /// Its sides.
     pub sides: u32,
+    /// The label of a side.
+    pub label: u32,
+    /// The mate and the next of a side.
+    pub side: u32,
     /// The pivots of a journal.
     pub pivots: u32,
 }
@@ -50,8 +58,12 @@ pub struct Limits {
 pub const VERSION_1: Limits = Limits {
     words: MAX_WORDS as u32,
     positions: MAX_POSITIONS,
+    generators: GENERATORS,
+    weight: MAX_WEIGHT,
     copies: MAX_COPIES,
     sides: MAX_SIDES,
+    label: MAX_LABEL,
+    side: MAX_SIDE,
     pivots: MAX_PIVOTS,
 };
 

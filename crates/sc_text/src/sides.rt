@@ -1,20 +1,18 @@
 //! The lines of sides.
 
-ghost use Rattle.std.specs.Prelude.{◌≡◌, ◌≤◌, [], ◌∷◌, Some, IfOk, IfErr, codes};
-ghost use Rattle.sc_text.specs.declared.limits.TheConstants.{MAX_LABEL, MAX_SIDE};
+ghost use Rattle.std.specs.Prelude.{◌≡◌, Some, IfOk, IfErr};
 ghost use Rattle.sc_text.specs.Sides as spellings;
-ghost use Rattle.sc_line.specs.Faults.{between, numbers_line_fault};
 ghost use Rattle.sc_text.specs.Sides.{a_side};
 
-use crate::limits::{MAX_LABEL, MAX_SIDE};
+use crate::limits::Limits;
 use sc_line::{Fields, Kind, LineFault, LineItem, in_range};
 use sc_theory::Side;
 use std::alloc::Global;
 
-/// The side of a line `side LABEL MATE NEXT`.
-pub fn side_line(line: &[u8]) -> Result<Side, Kind>
-    ensures ok { IfOk result (λ s. (line.now ≡ spellings.side_line s) × spellings.IsSideInRange s) }
-    ensures err { IfErr result (λ kind. numbers_line_fault (codes "side") (between 0 MAX_LABEL ∷ between 0 MAX_SIDE ∷ between 0 MAX_SIDE ∷ []) line.now ≡ Some kind) }
+/// The side of a line `side LABEL MATE NEXT`, within these limits.
+pub fn side_line(line: &[u8], limits: &Limits) -> Result<Side, Kind>
+    ensures ok { IfOk result (λ s. (line.now ≡ spellings.side_line s) × spellings.IsSideWithin limits.now s) }
+    ensures err { IfErr result (λ kind. spellings.side_fault limits.now line.now ≡ Some kind) }
 {
     let mut fields = Fields::of(line);
     fields.name(b"side")?;
@@ -23,22 +21,24 @@ pub fn side_line(line: &[u8]) -> Result<Side, Kind>
     let next = fields.number()?;
     fields.end()?;
     Ok(Side {
-        label: in_range(label, 0, MAX_LABEL)?,
-        mate: in_range(mate, 0, MAX_SIDE)?,
-        next: in_range(next, 0, MAX_SIDE)?,
+        label: in_range(label, 0, limits.label)?,
+        mate: in_range(mate, 0, limits.side)?,
+        next: in_range(next, 0, limits.side)?,
     })
 }
 
-/// The lines of sides.
+/// The lines of sides within these limits.
 #[derive(Drop)]
-pub struct SideLines;
+pub struct SideLines {
+    pub limits: Limits,
+}
 
 impl LineItem for SideLines {
     type Context = ();
 
     type Value = Side;
 
-    ghost kind = { λ k c before. a_side };
+    ghost kind = { λ k c before. a_side k.limits };
 
     fn read(
         &self,
@@ -47,6 +47,6 @@ impl LineItem for SideLines {
         _before: &[Side],
         _context: &(),
     ) -> Result<Side, LineFault> {
-        Ok(side_line(line)?)
+        Ok(side_line(line, &self.limits)?)
     }
 }

@@ -40,7 +40,9 @@ fn surface_lines(alloc: Global, limits: &Limits) -> SurfaceLines
 {
     let words = WordLines {
         letters: limits.positions,
+        limits: *limits,
     };
+    let sides = SideLines { limits: *limits };
     let copies = CountLine {
         name: b"copies",
         low: 1,
@@ -53,7 +55,7 @@ fn surface_lines(alloc: Global, limits: &Limits) -> SurfaceLines
             second: Pair {
                 first: One::new(copies),
                 second: Pair {
-                    first: Counted::new(alloc, b"sides", limits.sides, SideLines),
+                    first: Counted::new(alloc, b"sides", limits.sides, sides),
                     second: Literal::new(b"end"),
                 },
             },

@@ -12,7 +12,7 @@ use Rattle.sc_certificate.proofs.reader.new_body.Goals as goal
 pub returns : goal.returns
 returns c = λ h i.
     both_due (one_due (count_kind (c.new.ensures.kind i).name.now (c.new.ensures.kind i).low (c.new.ensures.kind i).high) (c.new.ensures.unread i)) (λ n.
-    both_due (counted_from (c.new-2.ensures.name i) (c.new-2.ensures.most i) (λ b. a_side) (c.new-2.ensures.uncounted i) (c.new-2.ensures.unread i)) (λ g.
+    both_due (counted_from (c.new-2.ensures.name i) (c.new-2.ensures.most i) (λ b. a_side (c.new-2.ensures.kind i).limits) (c.new-2.ensures.uncounted i) (c.new-2.ensures.unread i)) (λ g.
     both_due (one_due a_scale (c.new-3.ensures.unread i)) (λ d.
     both_due (many_due (λ b. a_base) (length h.chain) (c.new-4.ensures.unread i)) (λ base.
     both_due (many_due (λ b. a_pair (pair_at h.chain (length b))) (length (pairs h.chain)) (c.new-5.ensures.unread i)) (λ pair.

@@ -3,8 +3,7 @@ use Rattle.std.proofs.lemmas.Result.{err_from_is_err_and}
 use Rattle.sc_line.specs.Faults.{IsFaultOf}
 use Rattle.sc_line.specs.Formats.{Format, IsShort, plan_of}
 use Rattle.sc_line.specs.Forms.{IsToldBy}
-use Rattle.sc_text.specs.declared.limits.TheConstants.{VERSION_1}
-use Rattle.sc_text.specs.Surfaces.{Said, surface_due, said}
+use Rattle.sc_text.specs.Surfaces.{Said, said}
 use Rattle.sc_text.proofs.SurfaceLaws.{short_surface, surface_read}
 use Rattle.sc_text.proofs.surface.read_parts.Goals as goal
 
