@@ -4,7 +4,7 @@ use Rattle.std.specs.List.{AllByRecursion}
 use Rattle.sc_theory.specs.Chains.{Chain}
 use Rattle.sc_theory.specs.Walks.{IsPolygon}
 use Rattle.sc_advice.specs.declared.advice.Advice.{Advice}
-use Rattle.sc_advice.specs.declared.limits.TheConstants.{MAX_POLYGONS}
+use Rattle.sc_rounded_basis.specs.declared.limits.TheConstants.{MAX_POLYGONS}
 
 -- each list holds polygons of the chain, and at most so many
 pub record IsAdviceFor (c : Chain) (advice : Advice) : Type 0 where

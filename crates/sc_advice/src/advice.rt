@@ -4,15 +4,13 @@ ghost use Rattle.std.specs.Prelude.{◌≤◌, length, IfOk};
 ghost use Rattle.std.specs.List.{AllByRecursion};
 ghost use Rattle.sc_theory.specs.Walks.{IsPolygon};
 ghost use Rattle.sc_advice.specs.Advice.{IsAdviceFor};
-ghost use Rattle.sc_advice.specs.declared.limits.TheConstants.{MAX_POLYGONS};
+ghost use Rattle.sc_rounded_basis.specs.declared.limits.TheConstants.{MAX_POLYGONS};
 
-use crate::columns::Column;
-use crate::fixed::ONE;
-use crate::limits::MAX_POLYGONS;
-use crate::mode::Mode;
 use crate::search::Search;
 use crate::surface::surface_walks;
 use sc_chain::{Chain, Polygon};
+use sc_rounded_basis::limits::MAX_POLYGONS;
+use sc_rounded_basis::{Column, Mode, ONE};
 use std::alloc::{AllocError, Global};
 
 /// By how much the polygons of the third list may be worth less than they cost, with `PRICE_BITS` bits behind the point.

@@ -1,17 +1,4 @@
-//! How far the search goes. All of it but the first is free: other numbers make other advice, which is no less true.
-
-ghost use Rattle.std.specs.Prelude.{◌≡◌};
-
-/// The polygons of a list of advice, at most: so many does the search know.
-pub const MAX_POLYGONS: usize = 20_000;
-
-/// The numbers of the limits.
-pub fn numbers()
-    ensures { MAX_POLYGONS ≡ 20000 }
-{}
-
-/// The polygons whose leaving rows are looked at before one of them enters.
-pub(crate) const CANDIDATES: usize = 12;
+//! How far the search goes. All of it is free: other numbers make other advice, which is no less true.
 
 /// The exchanges after which new polygons are looked for.
 pub(crate) const PRICING_INTERVAL: u32 = 25;
@@ -39,6 +26,3 @@ pub(crate) const SWAPS_A_SIDE: u32 = 1000;
 
 /// .. and in all, at most.
 pub(crate) const MAX_SWAPS: u32 = 200_000;
-
-/// The exchanges that are held back before the inverse has them.
-pub(crate) const HELD_EXCHANGES: usize = 6;

@@ -1,9 +1,7 @@
 //! The search for new polygons that are worth more than they cost.
 
-use crate::columns::Pool;
 use crate::cycles::cycles_of;
-use crate::fixed::ONE;
-use crate::steps::{Step, Steps};
+use sc_rounded_basis::{MARGIN, ONE, Pool, Step, Steps};
 use std::alloc::{AllocError, Global};
 
 /// More than any walk costs, with `PRICE_BITS` bits behind the point.
@@ -11,9 +9,6 @@ const FAR: i64 = 1 << 62;
 
 /// The greatest size of the price of a step: 128 of them stay below `FAR`.
 const MAX_STEP_PRICE: i64 = 1 << 55;
-
-/// By how much a polygon has to be worth more than it costs, with `PRICE_BITS` bits behind the point.
-pub(crate) const MARGIN: i64 = ONE / 100_000;
 
 /// How far a search goes: steps of at most this reach, and walks of at most so many steps.
 #[derive(Clone, Copy)]

@@ -1,16 +1,13 @@
 //! The private search for a good basis: exchanges, now and then a check and a look for new polygons.
 
-use crate::basis::Basis;
-use crate::columns::Pool;
-use crate::fixed::{ONE, VALUE_BITS};
 use crate::limits::{
     CHECK_INTERVAL, EXCHANGES_A_ROW, NEAR_EXCHANGES_A_ROW, PRICING_INTERVAL, REPAIRS, RETREATS,
 };
-use crate::mode::Mode;
-use crate::pivots::{Choice, Pivots, carry_out, choose, repair_of};
 use crate::pricing::{Stage, find_polygons};
-use crate::steps::Steps;
 use sc_chain::Chain;
+use sc_rounded_basis::{
+    Basis, Choice, Mode, ONE, Pivots, Pool, Steps, VALUE_BITS, carry_out, choose, repair_of,
+};
 use std::alloc::{AllocError, Global};
 
 /// The residual of the prices above which a basis counts as broken, with `PRICE_BITS` bits behind the point ..

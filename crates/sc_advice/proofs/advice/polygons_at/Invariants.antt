@@ -1,7 +1,7 @@
 use Rattle.std.specs.Prelude.{◌≤◌, length}
 use Rattle.std.specs.List.{AllByRecursion}
 use Rattle.sc_theory.specs.Walks.{IsPolygon}
-use Rattle.sc_advice.specs.declared.limits.TheConstants.{MAX_POLYGONS}
+use Rattle.sc_rounded_basis.specs.declared.limits.TheConstants.{MAX_POLYGONS}
 use Rattle.sc_advice.proofs.advice.polygons_at.Given as goal
 
 abbrev pub invariant-loop-place : goal.invariant-loop-place

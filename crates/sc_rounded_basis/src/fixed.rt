@@ -2,13 +2,13 @@
 //! loops over the inverse, whose time counts: such a number makes worse advice and nothing else.
 
 /// The bits behind the point of prices, costs, excesses and of the entries of the inverse.
-pub(crate) const PRICE_BITS: u32 = 32;
+pub const PRICE_BITS: u32 = 32;
 
 /// The number 1 with `PRICE_BITS` bits behind the point.
-pub(crate) const ONE: i64 = 1 << PRICE_BITS;
+pub const ONE: i64 = 1 << PRICE_BITS;
 
 /// The bits behind the point of the values of a basis and of the right side.
-pub(crate) const VALUE_BITS: u32 = 48;
+pub const VALUE_BITS: u32 = 48;
 
 /// The bits behind the point of the weights by which excesses are compared.
 pub(crate) const WEIGHT_BITS: u32 = 16;

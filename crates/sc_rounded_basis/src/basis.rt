@@ -26,21 +26,22 @@ const ROUNDING: i64 = 1 << 8;
 
 /// The numbers of a basis. An item is the place of a polygon in the pool, or none for the unit of that row.
 #[derive(Drop)]
-pub(crate) struct Basis {
+pub struct Basis {
     /// The inverse, a list for each row of the chain: entry i of list k is what item i has of the unit of row k. With
     /// `PRICE_BITS` bits behind the point.
     pub(crate) inverse: Vec<Vec<i64>>,
-    pub(crate) items: Vec<Option<usize>>,
+    /// The item of each row.
+    pub items: Vec<Option<usize>>,
     /// The right side, with `VALUE_BITS` bits behind the point.
     pub(crate) right: Vec<i64>,
     /// How often each item is used, with `VALUE_BITS` bits behind the point.
     pub(crate) values: Vec<i64>,
     /// The price of each row, with `PRICE_BITS` bits behind the point.
-    pub(crate) prices: Vec<i64>,
+    pub prices: Vec<i64>,
     /// What each item has of the column that was looked at last, with `PRICE_BITS` bits behind the point.
     pub(crate) image: Vec<i64>,
     /// The last basis that was found sound.
-    pub(crate) sound: Vec<Option<usize>>,
+    pub sound: Vec<Option<usize>>,
     /// The exchanges that the inverse doesn't have yet.
     pub(crate) held: Vec<Held>,
 }
@@ -127,7 +128,7 @@ impl Leaving {
 
 impl Basis {
     /// The basis of the units.
-    pub(crate) fn new(alloc: Global, chain: &Chain, pairs: usize) -> Result<Basis, AllocError> {
+    pub fn new(alloc: Global, chain: &Chain, pairs: usize) -> Result<Basis, AllocError> {
         let right = right_side(alloc, chain, pairs)?;
         let rows = right.len();
         Ok(Basis {
@@ -181,7 +182,7 @@ impl Basis {
     }
 
     /// The row whose item has the least value, if that is negative and not by rounding alone.
-    pub(crate) fn infeasible_row(&self) -> Option<usize> {
+    pub fn infeasible_row(&self) -> Option<usize> {
         let mut worst = None;
         let mut least = -ROUNDING;
         for (row, value) in self.values.iter().enumerate() {

@@ -1,10 +1,9 @@
 //! Which column enters, and the exchange.
 
 use crate::basis::{Basis, Leaving};
-use crate::columns::{Column, FIRST_WEIGHT, Pool};
+use crate::columns::{Column, FIRST_WEIGHT, MARGIN, Pool};
 use crate::fixed::{PRICE_BITS, WEIGHT_BITS, cut, product, quotient, scaled};
 use crate::limits::CANDIDATES;
-use crate::pricing::MARGIN;
 use std::alloc::{AllocError, Global};
 
 /// By how many bits the gain of an exchange is divided whose pivot is small.
@@ -27,11 +26,11 @@ const EXCESS_BITS: u32 = 12;
 
 /// The pivots that are taken.
 #[derive(Clone, Copy)]
-pub(crate) struct Pivots {
+pub struct Pivots {
     /// Those above this one alone, with `PRICE_BITS` bits behind the point ..
-    pub(crate) least: i64,
+    pub least: i64,
     /// .. and those below this one less gladly.
-    pub(crate) small: i64,
+    pub small: i64,
 }
 
 /// A column that could enter.
@@ -43,7 +42,7 @@ struct Candidate {
 
 /// The column that enters, and the row that leaves.
 #[derive(Clone, Copy)]
-pub(crate) struct Exchange {
+pub struct Exchange {
     entering: usize,
     leaving: Leaving,
     gain: i128,
@@ -140,7 +139,7 @@ fn replacement(columns: &[Column], row: &[i64], least_pivot: i64) -> Option<usiz
 }
 
 /// The exchange that takes the item of negative value out of this row.
-pub(crate) fn repair_of(
+pub fn repair_of(
     alloc: Global,
     basis: &mut Basis,
     columns: &[Column],
@@ -167,7 +166,7 @@ pub(crate) fn repair_of(
 
 /// What is to be done next.
 #[derive(Clone, Copy)]
-pub(crate) enum Choice {
+pub enum Choice {
     /// No column is worth more than it costs.
     Dry,
     /// No row can leave for any of the columns that are looked at.
@@ -177,7 +176,7 @@ pub(crate) enum Choice {
 }
 
 /// The exchange that improves most.
-pub(crate) fn choose(
+pub fn choose(
     alloc: Global,
     basis: &mut Basis,
     columns: &[Column],
@@ -272,7 +271,7 @@ fn have_grown(columns: &[Column]) -> bool {
 }
 
 /// Makes the exchange, in everything that is known of basis and columns.
-pub(crate) fn carry_out(
+pub fn carry_out(
     alloc: Global,
     basis: &mut Basis,
     pool: &mut Pool,

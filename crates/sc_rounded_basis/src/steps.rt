@@ -10,28 +10,28 @@ use std::alloc::{AllocError, Global};
 
 /// A step from some position.
 #[derive(Clone, Copy)]
-pub(crate) struct Step {
+pub struct Step {
     /// The position that it goes to.
-    pub(crate) to: usize,
+    pub to: usize,
     /// The row of its pair.
-    pub(crate) pair: usize,
+    pub pair: usize,
     /// Its entry in that row: 1 or -1.
-    pub(crate) entry: i64,
+    pub entry: i64,
     /// The row of the word that it goes to the first position of.
-    pub(crate) word: Option<usize>,
+    pub word: Option<usize>,
     /// How many positions it goes away from the next position.
-    pub(crate) reach: usize,
+    pub reach: usize,
     /// What it takes off the worth of a polygon, with `PRICE_BITS` bits behind the point.
-    pub(crate) surcharge: i64,
+    pub surcharge: i64,
 }
 
 /// The steps of a chain.
 #[derive(Drop)]
-pub(crate) struct Steps {
+pub struct Steps {
     /// How many rows of pairs there are.
-    pub(crate) pairs: usize,
+    pub pairs: usize,
     /// The steps from each position.
-    pub(crate) from: Vec<Vec<Step>>,
+    pub from: Vec<Vec<Step>>,
 }
 
 /// What a step of this reach takes off the worth of a polygon.
@@ -87,7 +87,7 @@ fn steps_from(
 
 impl Steps {
     /// The steps of a chain.
-    pub(crate) fn of(alloc: Global, chain: &Chain, mode: Mode) -> Result<Steps, AllocError> {
+    pub fn of(alloc: Global, chain: &Chain, mode: Mode) -> Result<Steps, AllocError> {
         let pairs = Pairs::of(alloc, chain)?;
         let mut from = Vec::new(alloc);
         for position in 0..chain.positions() {

@@ -89,11 +89,7 @@ impl Basis {
     }
 
     /// Mends the prices by the inverse. Answers the greatest residual before that.
-    pub(crate) fn price_anew(
-        &mut self,
-        alloc: Global,
-        columns: &[Column],
-    ) -> Result<u64, AllocError> {
+    pub fn price_anew(&mut self, alloc: Global, columns: &[Column]) -> Result<u64, AllocError> {
         self.settle();
         let mut residuals = self.residuals(alloc, columns)?;
         let mut size = greatest(residuals.as_slice());
@@ -110,7 +106,7 @@ impl Basis {
     }
 
     /// The least value of an item.
-    pub(crate) fn least_value(&self) -> i64 {
+    pub fn least_value(&self) -> i64 {
         self.values.iter().copied().min().unwrap_or(0)
     }
 
@@ -144,11 +140,7 @@ impl Basis {
     }
 
     /// Mends the values.
-    pub(crate) fn mend_values(
-        &mut self,
-        alloc: Global,
-        columns: &[Column],
-    ) -> Result<(), AllocError> {
+    pub fn mend_values(&mut self, alloc: Global, columns: &[Column]) -> Result<(), AllocError> {
         for _mending in 0..VALUE_MENDINGS {
             let left = self.left_over(alloc, columns)?;
             self.add_to_values(alloc, left.as_slice())?;
@@ -199,7 +191,7 @@ impl Basis {
     }
 
     /// Builds the inverse and the values anew from the items. A polygon that finds no row leaves the basis.
-    pub(crate) fn rebuild(&mut self, alloc: Global, columns: &[Column]) -> Result<(), AllocError> {
+    pub fn rebuild(&mut self, alloc: Global, columns: &[Column]) -> Result<(), AllocError> {
         let polygons = self.polygons(alloc, columns)?;
         let mut is_free: Vec<bool> = self.items.iter().map(|item| item.is_some()).collect(alloc)?;
         self.inverse = units(alloc, self.items.len())?;

@@ -6,25 +6,28 @@ use crate::steps::{Step, Steps};
 use std::alloc::{AllocError, Global};
 use std::collections::HashSet;
 
+/// By how much a polygon has to be worth more than it costs, with `PRICE_BITS` bits behind the point.
+pub const MARGIN: i64 = ONE / 100_000;
+
 /// The weight of a column that nothing is known of.
 pub(crate) const FIRST_WEIGHT: i64 = 1 << WEIGHT_BITS;
 
 /// A polygon, as a column.
 #[derive(Drop)]
-pub(crate) struct Column {
+pub struct Column {
     /// Its positions, from the least one.
-    pub(crate) walk: Vec<u32>,
+    pub walk: Vec<u32>,
     /// Its entries that aren't 0, each with its row.
     pub(crate) entries: Vec<(usize, i64)>,
     /// What it is worth.
     pub(crate) worth: i64,
     /// By how much it is worth more than it costs at the prices.
-    pub(crate) excess: i64,
+    pub excess: i64,
     /// How its excess compares with that of others: an estimate of the square of its length, with `WEIGHT_BITS` bits behind
     /// the point.
     pub(crate) weight: i64,
     /// Whether it is an item of the basis.
-    pub(crate) is_basic: bool,
+    pub is_basic: bool,
 }
 
 impl Column {
@@ -87,14 +90,15 @@ fn column_of(alloc: Global, steps: &Steps, walk: Vec<u32>) -> Result<Option<Colu
 
 /// The polygons that the search knows, each once.
 #[derive(Drop)]
-pub(crate) struct Pool {
-    pub(crate) columns: Vec<Column>,
+pub struct Pool {
+    /// As columns, in the order in which they came.
+    pub columns: Vec<Column>,
     known: HashSet<Vec<u32>>,
 }
 
 impl Pool {
     /// A pool of no polygons.
-    pub(crate) fn new(alloc: Global) -> Pool {
+    pub fn new(alloc: Global) -> Pool {
         Pool {
             columns: Vec::new(alloc),
             known: HashSet::new(alloc),
@@ -103,7 +107,7 @@ impl Pool {
 
     /// Adds the polygon of a walk, if it is new and one, its excess above a bound at these prices, and there is room.
     /// Answers whether it was added.
-    pub(crate) fn add(
+    pub fn add(
         &mut self,
         alloc: Global,
         steps: &Steps,
@@ -127,14 +131,14 @@ impl Pool {
     }
 
     /// Compares each polygon with the prices once more.
-    pub(crate) fn compare(&mut self, prices: &[i64]) {
+    pub fn compare(&mut self, prices: &[i64]) {
         for column in self.columns.iter_mut() {
             column.excess = column.worth.saturating_sub(column.cost(prices));
         }
     }
 
     /// Forgets what the weights are.
-    pub(crate) fn forget_weights(&mut self) {
+    pub fn forget_weights(&mut self) {
         for column in self.columns.iter_mut() {
             column.weight = FIRST_WEIGHT;
         }
