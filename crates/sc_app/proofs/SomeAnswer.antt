@@ -32,7 +32,7 @@ use Rattle.sc_prices.specs.declared.flaws.TableFlaw.{TableFlaw}
 use Rattle.sc_prices.specs.declared.flaws.TableFlaw.TheVariants.{Start, Step}
 use Rattle.sc_prices.specs.declared.verdict.Condition.TheVariants.{Flaw, Value, Table, NotTight}
 use Rattle.sc_prices.specs.Flaws.{HasStartFlaw, HasStepFlaw, HasTableFlaw, IsBefore, IsFirstTableFlaw}
-use Rattle.sc_prices.specs.inside.Rows.{start_of}
+use Rattle.sc_prices.specs.inside.OneTable.{start_of}
 use Rattle.sc_prices.proofs.TableFlaws.{flawless_vouch}
 use Rattle.sc_fraction.specs.declared.frac.Frac.{Frac}
 use Rattle.sc_fraction.specs.Frac.{IsQuotient}
@@ -138,19 +138,19 @@ module _ (Tells : Chain → ℕ → Sides → List ℕ → Type 0) (input : List
 
 -- tables without a first flaw vouch
 module _ (v : Certificate) (never : (flaw : TableFlaw) → ¬ IsFirstTableFlaw v.chain v.list v.tables flaw) where
-  abbrev InRow : ℕ → Type 0
-  InRow s = (flaw : TableFlaw) × (start_of flaw ≡ s) × HasTableFlaw v.chain v.list v.tables flaw
+  abbrev InTable : ℕ → Type 0
+  InTable s = (flaw : TableFlaw) × (start_of flaw ≡ s) × HasTableFlaw v.chain v.list v.tables flaw
 
-  module _ (s : ℕ) (rows : (t : ℕ) → t < s → ¬ InRow t) where
-    row_before : (other : TableFlaw) → start_of other < s → ¬ HasTableFlaw v.chain v.list v.tables other
-    row_before other less h = rows (start_of other) less (other, refl, h)
+  module _ (s : ℕ) (earlier : (t : ℕ) → t < s → ¬ InTable t) where
+    table_before : (other : TableFlaw) → start_of other < s → ¬ HasTableFlaw v.chain v.list v.tables other
+    table_before other less h = earlier (start_of other) less (other, refl, h)
 
     no_start : ¬ HasStartFlaw v.chain v.tables s
     no_start h = never (Start s) (record { here = h; before = before })
       where
         before : (other : TableFlaw) → IsBefore other (Start s) → ¬ HasTableFlaw v.chain v.list v.tables other
-        before (Start t) less = row_before (Start t) less
-        before (Step t k l) less = row_before (Step t k l) less
+        before (Start t) less = table_before (Start t) less
+        before (Step t k l) less = table_before (Step t k l) less
 
     abbrev FromPlace : ℕ → Type 0
     FromPlace i = (j : ℕ) × HasStepFlaw v.chain v.list v.tables s i j
@@ -162,9 +162,9 @@ module _ (v : Certificate) (never : (flaw : TableFlaw) → ¬ IsFirstTableFlaw v
           before : (j : ℕ) → ((l : ℕ) → l < j → ¬ HasStepFlaw v.chain v.list v.tables s i l) → (other : TableFlaw) → IsBefore other (Step s i j) → ¬ HasTableFlaw v.chain v.list v.tables other
           before j ends (Start t) le = elim (cases_eq t s) [
             | inl same ↦ λ h. no_start (subst (HasStartFlaw v.chain v.tables) same h)
-            | inr other ↦ row_before (Start t) (omega (arith, le, other))
+            | inr other ↦ table_before (Start t) (omega (arith, le, other))
           ]
-          before j ends (Step t k l) (inl less) = row_before (Step t k l) less
+          before j ends (Step t k l) (inl less) = table_before (Step t k l) less
           before j ends (Step t k l) (inr (same, inl less)) = λ h. places k less (l, subst (λ (x : ℕ). HasStepFlaw v.chain v.list v.tables x k l) same h)
           before j ends (Step t k l) (inr (same, inr (here, less))) = λ h.
               ends l less (subst (λ (x : ℕ). HasStepFlaw v.chain v.list v.tables s x l) here (subst (λ (x : ℕ). HasStepFlaw v.chain v.list v.tables x k l) same h))
@@ -172,12 +172,12 @@ module _ (v : Certificate) (never : (flaw : TableFlaw) → ¬ IsFirstTableFlaw v
     no_place : (i : ℕ) → ¬ FromPlace i
     no_place = none_at_all FromPlace (λ i here places. no_step i places here.0 here.1)
 
-    no_row : ¬ InRow s
-    no_row (Start t, same, h) = no_start (subst (HasStartFlaw v.chain v.tables) same h)
-    no_row (Step t i j, same, h) = no_place i (j, subst (λ (x : ℕ). HasStepFlaw v.chain v.list v.tables x i j) same h)
+    no_table : ¬ InTable s
+    no_table (Start t, same, h) = no_start (subst (HasStartFlaw v.chain v.tables) same h)
+    no_table (Step t i j, same, h) = no_place i (j, subst (λ (x : ℕ). HasStepFlaw v.chain v.list v.tables x i j) same h)
 
   pub tables_vouch : Vouch v.chain v.list v.tables
-  tables_vouch = flawless_vouch v.chain v.list v.tables (λ flaw h. none_at_all InRow (λ s here rows. no_row s rows here) (start_of flaw) (flaw, refl, h))
+  tables_vouch = flawless_vouch v.chain v.list v.tables (λ flaw h. none_at_all InTable (λ s here earlier. no_table s earlier here) (start_of flaw) (flaw, refl, h))
 
 -- no input of `check` is without an answer
 pub check_answered : (input : List ℕ) → ((s : Status) (text : List ℕ) → ¬ CheckResponds input s text) → ⊥

@@ -1,6 +1,5 @@
 -- The form of certificate texts is lawful: which certificates they tell.
 use Rattle.std.proofs.Common.{◌≡◌, ℕ, suc, ◌+◌, ◌*◌, ◌≤◌, true, false, List, [], ◌∷◌, map, length, codes, None, pos, ℤ, refl, arith}
-use Rattle.std.specs.List.{AllByRecursion}
 use Rattle.std.proofs.Math.Nat.{mul-le-mul}
 use Rattle.sc_whole.specs.Spelling.{spelling}
 use Rattle.sc_theory.specs.Chains.{Chain, positions}
@@ -13,7 +12,7 @@ use Rattle.sc_chain.proofs.PairPlaces.{few_pairs}
 use Rattle.sc_line.specs.Lines.{Line, count_line, lacks, AllLack}
 use Rattle.sc_line.specs.Formats.{IsShort}
 use Rattle.sc_line.proofs.NumberLaws.{IsCountInRange}
-use Rattle.sc_line.specs.Forms.{Form, LineKind, IsLawful, literal, one, both}
+use Rattle.sc_line.specs.Forms.{IsLawful, one, both}
 use Rattle.sc_line.proofs.FormatLaws.{short_more}
 use Rattle.sc_line.proofs.FormLaws.{AreAll, AreFew, lawful_both, lawful_as, lawful_one, lawful_literal, lawful_all, lawful_few}
 use Rattle.sc_text.specs.declared.limits.Limits.{Limits}
@@ -60,7 +59,7 @@ module _ (m : Limits) (c : Chain) (small : IsChainWithin m c) where
       (few_pairs_of c m.positions small.letters)
 
   lawful_tables : IsLawful (tables_form (positions c)).lines ((tables_form (positions c)).due []) (AreAll (IsTableInRange (positions c)) (positions c)) m.positions
-  lawful_tables = lawful_all (λ (rows : Tables). a_table (positions c) (length rows)) (IsTableInRange (positions c)) (λ b. from_kind (positions c) (length b)) (λ b row. lacks-from_line (length b, row)) (positions c) m.positions small.letters
+  lawful_tables = lawful_all (λ (tables : Tables). a_table (positions c) (length tables)) (IsTableInRange (positions c)) (λ b. from_kind (positions c) (length b)) (λ b table. lacks-from_line (length b, table)) (positions c) m.positions small.letters
 
   lawful_journal : IsLawful (journal_form m c).lines ((journal_form m c).due uncounted) (AreFew (IsPivotInRange c) m.pivots) (suc m.pivots)
   lawful_journal = lawful_few (λ (before : List Pivot). a_pivot c) (IsPivotInRange c) (λ b. pivot_kind c) (λ b. lacks-pivot_line) (codes "pivots") m.pivots refl (λ n. lacks-numbers_line (codes "pivots") (pos n ∷ []) refl)
@@ -120,7 +119,7 @@ certificate_in_range m v h = record {
   sides = h.1.1.1.0.sides;
   list = record { scale = h.1.1.1.1.0; base = h.1.1.1.1.1.0.all; pair = h.1.1.1.1.1.1.0.all };
   counts = record { base = h.1.1.1.1.1.0.count; pair = h.1.1.1.1.1.1.0.count };
-  rows = h.1.1.1.1.1.1.1.0.count;
+  table_count = h.1.1.1.1.1.1.1.0.count;
   tables = h.1.1.1.1.1.1.1.0.all;
   few_pivots = h.1.1.1.1.1.1.1.1.0.few;
   journal = h.1.1.1.1.1.1.1.1.0.all;
@@ -142,7 +141,7 @@ in_range_told m v h = (
             (
               record { count = h.counts.pair; all = h.list.pair },
               (
-                record { count = h.rows; all = h.tables },
+                record { count = h.table_count; all = h.tables },
                 (record { few = h.few_pivots; all = h.journal }, tt),
               ),
             ),

@@ -76,7 +76,7 @@ entry_to_test : (e : Option ℤ) → IsEntryInRange e → option_map_or (of_size
 entry_to_test None h = refl
 entry_to_test (Some z) h = in_range_test (neg_ℤ MAX_ENTRY) MAX_ENTRY z h.0 h.1
 
--- the test tells whether all entries of a row are in range
+-- the test tells whether all entries of a table are in range
 pub entries_decided : (es : List (Option ℤ)) → IsTrue (list_all (λ e. option_map_or (of_size MAX_ENTRY) e true) es) ↔ AllByRecursion IsEntryInRange es
 entries_decided es = (
   (λ h. all_from_test (λ (e : Option ℤ). option_map_or (of_size MAX_ENTRY) e true) IsEntryInRange entry_from_test es h),

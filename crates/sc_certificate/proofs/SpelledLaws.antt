@@ -37,11 +37,11 @@ pair_lines_are all front (p ∷ ps) before (y ∷ ys) e at len =
     let rest = pair_lines_are all (front ++ p ∷ []) ps (before ++ y ∷ []) ys (e ∙ sym (append_assoc front (p ∷ []) ps)) (omega (arith, length_push before y, length_push front p)) (omega arith) in
     λ i. pair_line (here i) y ∷ rest i
 
-from_lines_are : (k n : ℕ) (before rows : Tables) → length before ≡ n → lines_after (λ (b : Tables). a_table k (length b)) before rows ≡ map (λ e. from_line e.0 e.1) (enumerate_from n rows)
+from_lines_are : (k n : ℕ) (before tables : Tables) → length before ≡ n → lines_after (λ (b : Tables). a_table k (length b)) before tables ≡ map (λ e. from_line e.0 e.1) (enumerate_from n tables)
 from_lines_are k n before [] at = refl
-from_lines_are k n before (row ∷ rows) at =
-    let rest = from_lines_are k (n + 1) (before ++ row ∷ []) rows (omega (arith, length_push before row)) in
-    λ i. from_line (at i) row ∷ rest i
+from_lines_are k n before (table ∷ tables) at =
+    let rest = from_lines_are k (n + 1) (before ++ table ∷ []) tables (omega (arith, length_push before table)) in
+    λ i. from_line (at i) table ∷ rest i
 
 -- with a price for each pair, the lines of a certificate are those spelled out
 pub same_lines : (v : Certificate) → length v.list.pair ≡ length (pairs v.chain) → certificate_lines v ≡ spelled_lines v
@@ -50,14 +50,14 @@ same_lines v count =
     let sides = lines_map (λ (b : Sides). a_side VERSION_1) side_line (λ b s. refl) [] v.sides in
     let bases = lines_map (λ (b : List ℤ). a_base) base_line (λ b z. refl) [] v.list.base in
     let prices = pair_lines_are (pairs v.chain) [] (pairs v.chain) [] v.list.pair refl refl count in
-    let rows = from_lines_are (positions v.chain) 0 [] v.tables refl in
+    let tables = from_lines_are (positions v.chain) 0 [] v.tables refl in
     let pivots = lines_map (λ (b : List Pivot). a_pivot v.chain) pivot_line (λ b p. refl) [] v.journal in
     let list = map base_line v.list.base in
     let pair : List Line = map (λ e. pair_line e.0 e.1) (zip (pairs v.chain) v.list.pair) in
     let last : List Line = map (λ e. from_line e.0 e.1) (enumerate_from 0 v.tables) ++ ((count_line (codes "pivots") (length v.journal) ∷ map pivot_line v.journal) ++ ending ∷ []) in
     (λ i.
     heading ∷ ((count_line (codes "words") (length v.chain) ∷ words i) ++ (value_line v.value ∷ count_line (codes "copies") v.copies ∷ ((count_line (codes "sides") (length v.sides) ∷ sides i)
-    ++ (scale_line v.list.scale ∷ (bases i ++ (prices i ++ (rows i ++ ((count_line (codes "pivots") (length v.journal) ∷ pivots i) ++ ending ∷ [])))))))))
+    ++ (scale_line v.list.scale ∷ (bases i ++ (prices i ++ (tables i ++ ((count_line (codes "pivots") (length v.journal) ∷ pivots i) ++ ending ∷ [])))))))))
     ∙ ap
     (λ (t : List Line). heading ∷ ((count_line (codes "words") (length v.chain) ∷ map word_line v.chain) ++ (value_line v.value ∷ count_line (codes "copies") v.copies ∷ ((count_line (codes "sides") (length v.sides) ∷ map side_line v.sides)
     ++ (scale_line v.list.scale ∷ t)))))

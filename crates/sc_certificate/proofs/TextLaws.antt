@@ -73,10 +73,10 @@ printed_is_read v (Err e) h read = is_memory (certificate_text v) (Err e) read v
 pub told_in_range : (f : Format Certificate) (bytes : List ℕ) (v : Certificate) → f ≡ certificate_due VERSION_1 → IsToldBy f bytes v → IsCertificateInRange v
 told_in_range f bytes v e t = lawful_certificate.in_range t.lines v (subst (λ (g : Format Certificate). Reads g t.lines (told v)) e t.reads)
 
--- tables of rows in range have entries in range
+-- tables in range have entries in range
 pub small_tables : (n : ℕ) (tables : Tables) → AllByRecursion (IsTableInRange n) tables → AreSmallTables tables
 small_tables n [] h = tt
-small_tables n (row ∷ tables) h = (h.0.entries_in_range, small_tables n tables h.1)
+small_tables n (table ∷ tables) h = (h.0.entries_in_range, small_tables n tables h.1)
 
 -- a certificate of what its parts told
 pub told_as : (f : Format Certificate) (bytes : List ℕ) (v : Certificate) (list : Prices) (tables : Tables) → f ≡ certificate_due VERSION_1 → IsToldBy f bytes v → list ≡ v.list → tables ≡ v.tables

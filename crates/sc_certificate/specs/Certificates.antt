@@ -148,7 +148,7 @@ pub record IsCertificateWithin (m : Limits) (v : Certificate) : Type 0 where
   pub sides : AllByRecursion (IsSideWithin m) v.sides
   pub list : IsSmallList v.list
   pub counts : FitsCounts (length v.chain) (length (pairs v.chain)) v.list
-  pub rows : length v.tables ≡ positions v.chain
+  pub table_count : length v.tables ≡ positions v.chain
   pub tables : AllByRecursion (IsTableInRange (positions v.chain)) v.tables
   pub few_pivots : length v.journal ≤ m.pivots
   pub journal : AllByRecursion (IsPivotInRange v.chain) v.journal

@@ -1,5 +1,5 @@
 -- The heading and the words of a certificate, as far as they were read.
-use Rattle.std.specs.Prelude.{ℕ, ◌-◌, Bool, false, List, Option}
+use Rattle.std.specs.Prelude.{ℕ, ◌-◌, Bool, false, List}
 use Rattle.sc_theory.specs.Words.{Word}
 use Rattle.sc_theory.specs.Chains.{positions}
 use Rattle.sc_line.specs.Lines.{Line}

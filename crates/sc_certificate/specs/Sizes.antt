@@ -17,14 +17,14 @@ pub record IsSmallList (list : Prices) : Type 0 where
 
 -- so are the entries of the tables
 abbrev pub AreSmallTables : Tables → Type 0
-AreSmallTables tables = AllByRecursion (λ row. AllByRecursion IsEntryInRange row) tables
+AreSmallTables tables = AllByRecursion (AllByRecursion IsEntryInRange) tables
 
 -- a list for a chain of so many words and inverse pairs
 pub record FitsCounts (words pairs : ℕ) (list : Prices) : Type 0 where
   pub base : length list.base ≡ words
   pub pair : length list.pair ≡ pairs
 
--- tables for so many positions: a row for each, with an entry for each
+-- tables for so many positions: one for each, with an entry for each
 pub record AreTablesOf (positions : ℕ) (tables : Tables) : Type 0 where
-  pub rows : length tables ≡ positions
-  pub entries : AllByRecursion (λ row. length row ≡ positions) tables
+  pub count : length tables ≡ positions
+  pub entries : AllByRecursion (λ table. length table ≡ positions) tables

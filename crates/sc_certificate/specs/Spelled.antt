@@ -21,7 +21,7 @@ list_lines c list = scale_line list.scale ∷ (map base_line list.base ++ pair_l
 abbrev pub list_text : List (ℕ × ℕ) → Prices → List ℕ
 list_text ps list = ended (scale_line list.scale) ++ (text_of (map base_line list.base) ++ text_of (pair_lines ps list.pair))
 
--- the lines of distance tables: the row of each start
+-- the lines of distance tables: that of each start
 abbrev pub tables_lines : Tables → List Line
 tables_lines tables = map (λ e. from_line e.0 e.1) (enumerate_from 0 tables)
 

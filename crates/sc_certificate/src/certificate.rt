@@ -19,7 +19,7 @@ pub struct CertificateText {
     pub sides: Vec<Side>,
     /// The price list.
     pub list: PriceList,
-    /// The distance tables, a row for each position.
+    /// The distance tables, one for each position.
     pub tables: Tables,
     /// The pivots of the solver in their order.
     pub journal: Vec<Pivot>,

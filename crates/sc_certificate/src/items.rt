@@ -8,7 +8,7 @@ ghost use Rattle.sc_text.specs.PriceLines.{a_base, a_pair};
 ghost use Rattle.sc_text.specs.TableLines.{a_table};
 
 use crate::head::Head;
-use crate::tables::Row;
+use crate::tables::Table;
 use sc_line::{LineFault, NumberedItem};
 use sc_text::{base_line, from_line, pair_line};
 use std::alloc::Global;
@@ -70,14 +70,14 @@ impl NumberedItem for PairLines {
     }
 }
 
-/// The row of each start.
+/// The table of each start.
 #[derive(Drop)]
-pub struct RowLines;
+pub struct TableLines;
 
-impl NumberedItem for RowLines {
+impl NumberedItem for TableLines {
     type Context = Head;
 
-    type Value = Row;
+    type Value = Table;
 
     ghost kind = { λ k head before. a_table (positions head.chain) (length before) };
 
@@ -91,11 +91,11 @@ impl NumberedItem for RowLines {
         &self,
         alloc: Global,
         line: &[u8],
-        before: &[Row],
+        before: &[Table],
         head: &Head,
-    ) -> Result<Row, LineFault> {
+    ) -> Result<Table, LineFault> {
         let places = head.chain().positions();
         let entries = from_line(alloc, line, before.len() as u32, places)?;
-        Ok(Row::of_small(entries))
+        Ok(Table::of_small(entries))
     }
 }

@@ -23,7 +23,7 @@ pub use laws::{
 pub use price_list::PriceList;
 pub use printing::{print_base_lines, print_list, print_pair_lines};
 pub use reader::read_certificate_text;
-pub use tables::{Row, Tables};
+pub use tables::{Table, Tables};
 
 #[cfg(test)]
 mod tests;

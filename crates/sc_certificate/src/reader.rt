@@ -15,10 +15,10 @@ ghost use Rattle.sc_certificate.specs.Heads.{ChainAndValue, lines_at};
 use crate::certificate::CertificateText;
 use crate::front::Front;
 use crate::head::Head;
-use crate::items::{BaseLines, PairLines, RowLines};
+use crate::items::{BaseLines, PairLines, TableLines};
 use crate::pivots::PivotLines;
 use crate::price_list::PriceList;
-use crate::tables::{Row, Tables};
+use crate::tables::{Table, Tables};
 use sc_chain::{Chain, Pivot};
 use sc_fraction::Frac;
 use sc_line::{
@@ -43,7 +43,7 @@ type Body = Pair<
                 Many<BaseLines>,
                 Pair<
                     Many<PairLines>,
-                    Pair<Many<RowLines>, Pair<Counted<PivotLines>, Free<Literal, Head>>>,
+                    Pair<Many<TableLines>, Pair<Counted<PivotLines>, Free<Literal, Head>>>,
                 >,
             >,
         >,
@@ -55,7 +55,10 @@ type BodyOut = (
     u32,
     (
         Vec<Side>,
-        (i128, (Vec<i128>, (Vec<i128>, (Vec<Row>, (Vec<Pivot>, ()))))),
+        (
+            i128,
+            (Vec<i128>, (Vec<i128>, (Vec<Table>, (Vec<Pivot>, ())))),
+        ),
     ),
 );
 
@@ -141,7 +144,7 @@ fn new_body(alloc: Global, limits: &Limits) -> Body
                     second: Pair {
                         first: Many::new(alloc, PairLines),
                         second: Pair {
-                            first: Many::new(alloc, RowLines),
+                            first: Many::new(alloc, TableLines),
                             second: Pair {
                                 first: Counted::new(alloc, b"pivots", limits.pivots, PivotLines),
                                 second: Free {
@@ -176,14 +179,14 @@ fn read_parts(alloc: Global, bytes: &[u8]) -> Result<CertificateText, TextFault>
 {
     let lines = CertificateLines::new(alloc);
     let (chain, value, out) = read_by_lines(alloc, lines, &(), bytes)?;
-    let (copies, (sides, (scale, (base, (pair, (rows, (journal, _))))))) = out;
+    let (copies, (sides, (scale, (base, (pair, (tables, (journal, _))))))) = out;
     Ok(CertificateText {
         chain,
         value,
         copies,
         sides,
         list: PriceList::of_small(scale, base, pair),
-        tables: Tables::of_small(rows),
+        tables: Tables::of_small(tables),
         journal,
     })
 }

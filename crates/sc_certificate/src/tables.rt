@@ -14,11 +14,11 @@ use std::marker::Model;
 
 /// The distances from a start to each position, or none, all of them in their range.
 #[derive(Debug, Drop)]
-pub struct Row {
+pub struct Table {
     entries: Vec<Option<i128>>,
 }
 
-impl Model for Row {
+impl Model for Table {
     ghost use Rattle.std.specs.Prelude.{List, Option, ℤ};
     ghost use Rattle.std.specs.List.{AllByRecursion};
     ghost use Rattle.sc_text.specs.TableLines.{IsEntryInRange};
@@ -30,10 +30,10 @@ impl Model for Row {
     ghost invariant = { λ r. AllByRecursion IsEntryInRange r.entries.items };
 }
 
-/// A row of distances for each start.
+/// A table for each start.
 #[derive(Debug, Drop)]
 pub struct Tables {
-    rows: Vec<Row>,
+    tables: Vec<Table>,
 }
 
 impl Model for Tables {
@@ -43,9 +43,9 @@ impl Model for Tables {
 
     ghost use Rattle.sc_certificate.specs.Sizes.{AreSmallTables};
 
-    ghost view = { λ t. t.rows.items };
+    ghost view = { λ t. t.tables.items };
 
-    ghost invariant = { λ t. AreSmallTables t.rows.items };
+    ghost invariant = { λ t. AreSmallTables t.tables.items };
 }
 
 /// Whether an entry is none or in the range of distances.
@@ -65,25 +65,25 @@ fn are_small_entries(entries: &[Option<i128>]) -> bool
     entries.iter().all(|entry| is_small_entry(*entry))
 }
 
-impl Row {
-    /// The row of these entries. There is none exactly where a number is out of its range.
-    pub fn new(entries: Vec<Option<i128>>) -> Option<Row>
+impl Table {
+    /// The table of these entries. There is none exactly where a number is out of its range.
+    pub fn new(entries: Vec<Option<i128>>) -> Option<Table>
         ensures some { IsSome result ↔ AllByRecursion IsEntryInRange entries.items }
-        ensures row { IfSome result (λ r. r ≡ entries.items) }
+        ensures table { IfSome result (λ t. t ≡ entries.items) }
     {
         if are_small_entries(entries.as_slice()) {
-            Some(Row { entries })
+            Some(Table { entries })
         } else {
             None
         }
     }
 
-    /// The row of entries that are in their range.
-    pub fn of_small(entries: Vec<Option<i128>>) -> Row
+    /// The table of entries that are in their range.
+    pub fn of_small(entries: Vec<Option<i128>>) -> Table
         requires { AllByRecursion IsEntryInRange entries.items }
         ensures { result ≡ entries.items }
     {
-        Row { entries }
+        Table { entries }
     }
 
     /// The entries in the order of the positions.
@@ -96,57 +96,57 @@ impl Row {
 }
 
 impl Tables {
-    /// No rows.
+    /// No tables.
     pub fn new(alloc: Global) -> Tables
         ensures { result ≡ [] }
     {
         Tables {
-            rows: Vec::new(alloc),
+            tables: Vec::new(alloc),
         }
     }
 
-    /// The tables of rows that are in their range.
-    pub fn of_small(rows: Vec<Row>) -> Tables
-        requires { AreSmallTables rows.items }
-        ensures { result ≡ rows.items }
+    /// Tables that are in their range.
+    pub fn of_small(tables: Vec<Table>) -> Tables
+        requires { AreSmallTables tables.items }
+        ensures { result ≡ tables.items }
     {
-        Tables { rows }
+        Tables { tables }
     }
 
-    /// Puts a row behind the others. The tables stay as they are where memory runs out.
-    pub fn push(&mut self, row: Row) -> Result<(), AllocError>
-        ensures ok { OnOk result (self.new ≡ self.old ++ row ∷ []) }
+    /// Puts a table behind the others. They stay as they are where memory runs out.
+    pub fn push(&mut self, table: Table) -> Result<(), AllocError>
+        ensures ok { OnOk result (self.new ≡ self.old ++ table ∷ []) }
         ensures err { OnErr result (self.new ≡ self.old) }
     {
-        // a look at the row, so that its invariant is known: its entries are in their range
-        let _ = &row.entries;
-        self.rows.push(row)?;
+        // a look at the table, so that its invariant is known: its entries are in their range
+        let _ = &table.entries;
+        self.tables.push(table)?;
         Ok(())
     }
 
-    /// How many rows there are.
-    pub fn rows(&self) -> usize
-        ensures rows { result ≡ length self.now }
+    /// How many tables there are.
+    pub fn len(&self) -> usize
+        ensures count { result ≡ length self.now }
         ensures small { AreSmallTables self.now }
     {
-        self.rows.len()
+        self.tables.len()
     }
 
-    /// The entries of the row of a start, in the order of the positions.
-    pub fn row(&self, start: usize) -> &[Option<i128>]
+    /// The entries of the table of a start, in the order of the positions.
+    pub fn table(&self, start: usize) -> &[Option<i128>]
         requires { start < length self.now }
-        ensures row { result.now ≡ get_or self.now start [] }
+        ensures table { result.now ≡ get_or self.now start [] }
         ensures small { AreSmallTables self.now }
     {
-        self.rows[start].entries()
+        self.tables[start].entries()
     }
 
-    /// The entry of the row of a start at a position, and none where there is no such row or no such position.
+    /// The entry of the table of a start at a position, and none where there is no such table or no such position.
     pub fn entry(&self, start: usize, place: usize) -> Option<i128>
         ensures entry { result ≡ entry self.now start place }
         ensures in_range { IsEntryInRange result }
     {
-        let entries = self.rows.get(start)?.entries();
+        let entries = self.tables.get(start)?.entries();
         *entries.get(place)?
     }
 }

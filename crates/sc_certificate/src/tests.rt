@@ -23,7 +23,7 @@ fn text_c_is_read(rt: HostRuntime) -> Result<(), Fail> {
     assert_eq!(rt; certificate.list.scale(), 1);
     assert_eq!(rt; certificate.list.base(), [1].as_slice());
     assert_eq!(rt; certificate.list.pair(), [-5, -5].as_slice());
-    assert_eq!(rt; certificate.tables.rows(), 4);
+    assert_eq!(rt; certificate.tables.len(), 4);
     assert_eq!(rt; certificate.tables.entry(2, 0), Some(11));
     assert_eq!(rt; certificate.tables.entry(0, 4), None);
     assert_eq!(rt; certificate.journal.len(), 1);
@@ -36,7 +36,7 @@ fn texts_d_and_e_are_read(rt: HostRuntime) -> Result<(), Fail> {
     assert_eq!(rt; certificate.chain.words(), 2);
     assert_eq!(rt; certificate.value.num(), 0);
     assert_eq!(rt; certificate.list.base(), [-3, 4].as_slice());
-    assert_eq!(rt; certificate.tables.rows(), 2);
+    assert_eq!(rt; certificate.tables.len(), 2);
     let certificate = read_certificate_text(rt.alloc(), TEXT_E)?;
     assert_eq!(rt; certificate.chain.words(), 0);
     assert_eq!(rt; certificate.sides.len(), 0);
@@ -81,7 +81,7 @@ fn fault_after(
 
 #[test]
 fn faults_of_lines(rt: HostRuntime) -> Result<(), Fail> {
-    let rows: [(u8, &[u8], Kind); 45] = [
+    let cases: [(u8, &[u8], Kind); 45] = [
         (0, b"scallop surface 1", Kind::Form),
         (1, b"words 33", Kind::Range),
         (2, b"word 1 aA", Kind::NotReduced),
@@ -132,7 +132,7 @@ fn faults_of_lines(rt: HostRuntime) -> Result<(), Fail> {
         (20, b"end 1", Kind::Form),
         (21, b"end", Kind::Rest),
     ];
-    for (lines, line, kind) in &rows {
+    for (lines, line, kind) in &cases {
         assert_eq!(rt;
             fault_after(&rt, *lines, line)?,
             Some((u32::from(*lines) + 1, *kind))

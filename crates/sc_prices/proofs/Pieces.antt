@@ -57,11 +57,11 @@ parts_are_text v count =
     (lines_first words (value_line v.value ∷ count_line (codes "copies") v.copies ∷ (sides ++ from_list))
     ∙ ap (λ (t : List ℕ). text_of words ++ (ended (value_line v.value) ++ (ended (count_line (codes "copies") v.copies) ++ t))) behind_value)
 
--- ---- rows beside their starts
+-- ---- tables beside their starts
 
-pub row_line : (tables : Tables) (i : ℕ) (row : List (Option ℤ)) → i < length tables → row ≡ get_or tables i []
-    → from_line i row ≡ from_line (get_or (enumerate_from 0 tables) i (0, [])).0 (get_or (enumerate_from 0 tables) i (0, [])).1
-row_line tables i row h e =
+pub table_line : (tables : Tables) (i : ℕ) (table : List (Option ℤ)) → i < length tables → table ≡ get_or tables i []
+    → from_line i table ≡ from_line (get_or (enumerate_from 0 tables) i (0, [])).0 (get_or (enumerate_from 0 tables) i (0, [])).1
+table_line tables i table h e =
     ap (from_line i) e
     ∙ ap (λ (k : ℕ). from_line k (get_or tables i [])) (sym (zero-add i))
     ∙ ap (λ (x : ℕ × List (Option ℤ)). from_line x.0 x.1) (sym (get_or-enumerate_from 0 tables i (0, []) h))

@@ -5,7 +5,7 @@ use borrow.Author.Tests.{eqb-true}
 use Rattle.std.proofs.lemmas.Bool.{eq-eqb}
 use Rattle.std.proofs.lemmas.Int.{ints}
 use Rattle.sc_algebra.proofs.Ints.{mul_comm, mul_neg, pos-mul, pos-le, mul-le_left, mul-le_right, mul_assoc}
-use Rattle.sc_theory.specs.Chains.{Chain, weight, weighted_length}
+use Rattle.sc_theory.specs.Chains.{Chain, weighted_length}
 use Rattle.sc_theory.proofs.FatgraphLaws.{length_is}
 use Rattle.sc_text.specs.declared.limits.TheConstants.{MAX_PRICE}
 use Rattle.sc_text.specs.PriceLines.{IsScaleInRange, IsPriceInRange}

@@ -9,7 +9,7 @@ use Rattle.sc_theory.specs.Prices.{Prices, Tables, entry, price, Vouch}
 use Rattle.sc_prices.specs.declared.flaws.TableFlaw.{TableFlaw}
 use Rattle.sc_prices.specs.declared.flaws.TableFlaw.TheVariants.{Start, Step}
 use Rattle.sc_prices.specs.Flaws.{HasStepFlaw, HasTableFlaw, IsAbove, Undercuts, IsBefore, IsFirstTableFlaw}
-use Rattle.sc_prices.specs.inside.Rows.{start_of}
+use Rattle.sc_prices.specs.inside.OneTable.{start_of}
 
 is_zero_or : (e : Option ℤ) → (e ≡ Some (pos 0)) ⊎ (e ≢ Some (pos 0))
 is_zero_or None = inr (λ h. cc)
@@ -82,9 +82,9 @@ pub first_flaw_alone : (c : Chain) (list : Prices) (tables : Tables) (f g : Tabl
 first_flaw_alone c list tables f g a b =
     elim (one_before f g) [ inl e ↦ e | inr (inl h) ↦ absurd (b.before f h a.here) | inr (inr h) ↦ absurd (a.before g h b.here) ]
 
--- ---- row by row
+-- ---- table by table
 
--- the rows before that of s have no flaw
+-- the tables before that of s have no flaw
 pub record AreFlawlessBefore (c : Chain) (list : Prices) (tables : Tables) (s : ℕ) : Type 0 where
   pub none : (flaw : TableFlaw) → start_of flaw < s → ¬ HasTableFlaw c list tables flaw
 
@@ -92,14 +92,14 @@ flaw_inside : (c : Chain) (list : Prices) (tables : Tables) (flaw : TableFlaw) �
 flaw_inside c list tables (Start s) h = h.start
 flaw_inside c list tables (Step s i j) h = h.start
 
--- with no flaw in any row the tables vouch for the list
-pub all_rows : (c : Chain) (list : Prices) (tables : Tables) (s : ℕ) → positions c ≤ s → AreFlawlessBefore c list tables s → Vouch c list tables
-all_rows c list tables s past rows =
-    flawless_vouch c list tables (λ flaw h. rows.none flaw (omega (arith, past, flaw_inside c list tables flaw h)) h)
+-- with no flaw in any of them the tables vouch for the list
+pub all_tables : (c : Chain) (list : Prices) (tables : Tables) (s : ℕ) → positions c ≤ s → AreFlawlessBefore c list tables s → Vouch c list tables
+all_tables c list tables s past before =
+    flawless_vouch c list tables (λ flaw h. before.none flaw (omega (arith, past, flaw_inside c list tables flaw h)) h)
 
--- ---- within a row
+-- ---- within a table
 
--- the steps of the row of s that begin before i have no flaw
+-- the steps of the table of s that begin before i have no flaw
 pub record AreStepsFlawless (c : Chain) (list : Prices) (tables : Tables) (s i : ℕ) : Type 0 where
   pub none : (k l : ℕ) → k < i → ¬ HasStepFlaw c list tables s k l
 
@@ -113,7 +113,7 @@ one_begin_more c list tables s i steps here = record {
       ];
 }
 
--- ---- a step of a row
+-- ---- a step of a table
 
 -- with an entry at i, the step to j has a flaw exactly where it is a step that undercuts
 pub step_flaw : (c : Chain) (list : Prices) (tables : Tables) (s i j : ℕ) (a p : ℤ) → s < positions c → IsStep c i j → Some a ≡ entry tables s i → p ≡ price c list i j

@@ -6,7 +6,7 @@ use Rattle.sc_theory.specs.Prices.{Prices, price, Tables, entry}
 use Rattle.sc_prices.specs.declared.flaws.TableFlaw.{TableFlaw}
 use Rattle.sc_prices.specs.declared.flaws.TableFlaw.TheVariants.{Start, Step}
 
--- the row of the start s doesn't have 0 at s
+-- the table of the start s doesn't have 0 at s
 pub record HasStartFlaw (c : Chain) (tables : Tables) (s : ℕ) : Type 0 where
   pub start : s < positions c
   pub not_zero : entry tables s s ≢ Some (pos 0)
@@ -20,7 +20,7 @@ IsAbove z (Some b) = z <ℤ b
 abbrev pub Undercuts : Prices → Tables → ℕ → ℕ → ℤ → Type 0
 Undercuts list tables s j z = ((j ≡ s) × (z <ℤ list.scale)) ⊎ ((j ≢ s) × IsAbove z (entry tables s j))
 
--- in the row of the start s there is an entry at i, and with the step to j it undercuts
+-- in the table of the start s there is an entry at i, and with the step to j it undercuts
 pub record HasStepFlaw (c : Chain) (list : Prices) (tables : Tables) (s i j : ℕ) : Type 0 where
   pub start : s < positions c
   pub step : IsStep c i j

@@ -1,4 +1,4 @@
 -- Definitions that no clause of a public function needs.
 pub mod Answers
-pub mod Rows
+pub mod OneTable
 pub mod Sizes

@@ -53,13 +53,13 @@ const PARTS: [Part; 12] = [
     Part::End,
 ];
 
-fn print_rows(tables: &Tables, out: &mut Vec<u8>) -> Result<(), AllocError>
+fn print_tables(tables: &Tables, out: &mut Vec<u8>) -> Result<(), AllocError>
     requires { length tables.now ≤ MAX_POSITIONS }
     ensures ok { OnOk result (out.new.items ≡ out.old.items ++ text_of (tables_lines tables.now)) }
     ensures err { OnErr result (AppendsPart out.old.items out.new.items (text_of (tables_lines tables.now))) }
 {
-    for start in 0..tables.rows() {
-        print_from_line(start as u32, tables.row(start), out)?;
+    for start in 0..tables.len() {
+        print_from_line(start as u32, tables.table(start), out)?;
     }
     Ok(())
 }
@@ -125,7 +125,7 @@ impl Certificate {
                 let pairs = Pairs::of(*out.allocator(), &self.chain)?;
                 print_pair_lines(&pairs, self.list.pair(), out)
             }
-            Part::Tables => print_rows(&self.tables, out),
+            Part::Tables => print_tables(&self.tables, out),
             Part::Pivots => print_count_line(b"pivots", self.journal.len() as u64, out),
             Part::Journal => print_pivot_lines(self.journal.as_slice(), out),
             Part::End => print_line(b"end", &[], out),

@@ -24,18 +24,25 @@ const TWICE_ROUND: &[u8] = b"copies 2\nsides 8\nside 0 2 1\nside 1 3 2\nside 2 0
 
 const LIST: &[u8] = b"scale 1\nbase 1\npair 0 2 -5\npair 1 3 -5\n";
 
-const FIRST_ROW: &[u8] = b"from 0 0 -5 -10 -5\n";
+const FIRST_TABLE: &[u8] = b"from 0 0 -5 -10 -5\n";
 
-const GREATER_ROW: &[u8] = b"from 0 0 -5 -9 -5\n";
+const GREATER_TABLE: &[u8] = b"from 0 0 -5 -9 -5\n";
 
-const OTHER_ROWS: &[u8] = b"from 1 6 0 -4 1\nfrom 2 11 5 0 6\nfrom 3 6 0 -5 0\n";
+const OTHER_TABLES: &[u8] = b"from 1 6 0 -4 1\nfrom 2 11 5 0 6\nfrom 3 6 0 -5 0\n";
 
 const JOURNAL: &[u8] = b"pivots 1\npivot 2 0 3 2 1\n";
 
 const END: &[u8] = b"end\n";
 
 const OF_COMMUTATOR: Parts = &[
-    COMMUTATOR, HALF, TORUS, LIST, FIRST_ROW, OTHER_ROWS, JOURNAL, END,
+    COMMUTATOR,
+    HALF,
+    TORUS,
+    LIST,
+    FIRST_TABLE,
+    OTHER_TABLES,
+    JOURNAL,
+    END,
 ];
 
 const OF_ANNULUS: Parts = &[
@@ -88,8 +95,8 @@ fn judges_worked_certificates(rt: HostRuntime) -> Result<(), Fail> {
                 HALF,
                 TORUS,
                 LIST,
-                GREATER_ROW,
-                OTHER_ROWS,
+                GREATER_TABLE,
+                OTHER_TABLES,
                 JOURNAL,
                 END,
             ],
@@ -101,8 +108,8 @@ fn judges_worked_certificates(rt: HostRuntime) -> Result<(), Fail> {
                 THREE_QUARTERS,
                 TWICE_ROUND,
                 LIST,
-                FIRST_ROW,
-                OTHER_ROWS,
+                FIRST_TABLE,
+                OTHER_TABLES,
                 JOURNAL,
                 END,
             ],
@@ -114,8 +121,8 @@ fn judges_worked_certificates(rt: HostRuntime) -> Result<(), Fail> {
                 HALF,
                 TWICE_ROUND,
                 LIST,
-                FIRST_ROW,
-                OTHER_ROWS,
+                FIRST_TABLE,
+                OTHER_TABLES,
                 JOURNAL,
                 END,
             ],
@@ -123,7 +130,14 @@ fn judges_worked_certificates(rt: HostRuntime) -> Result<(), Fail> {
         ),
         (
             &[
-                COMMUTATOR, HALF, OWN_MATE, LIST, FIRST_ROW, OTHER_ROWS, JOURNAL, END,
+                COMMUTATOR,
+                HALF,
+                OWN_MATE,
+                LIST,
+                FIRST_TABLE,
+                OTHER_TABLES,
+                JOURNAL,
+                END,
             ],
             Err(own_mate),
         ),
@@ -150,7 +164,13 @@ fn a_text_without_its_last_line_has_ended(rt: HostRuntime) -> Result<(), Fail> {
     let text = text_of(
         rt.alloc(),
         &[
-            COMMUTATOR, HALF, TORUS, LIST, FIRST_ROW, OTHER_ROWS, JOURNAL,
+            COMMUTATOR,
+            HALF,
+            TORUS,
+            LIST,
+            FIRST_TABLE,
+            OTHER_TABLES,
+            JOURNAL,
         ],
     )?;
     match Certificate::read(rt.alloc(), text.as_slice()) {

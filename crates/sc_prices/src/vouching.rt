@@ -6,7 +6,7 @@ ghost use Rattle.sc_theory.specs.Prices.{pairs as inverse_pairs, Vouch};
 ghost use Rattle.sc_certificate.specs.Sizes.{FitsCounts};
 ghost use Rattle.sc_fatgraph.specs.inside.Flaws.{IsLeastPlace};
 ghost use Rattle.sc_prices.specs.Flaws.{Undercuts, HasStepFlaw, IsFirstTableFlaw};
-ghost use Rattle.sc_prices.specs.inside.Rows.{IsFirstInRow};
+ghost use Rattle.sc_prices.specs.inside.OneTable.{IsFirstInTable};
 
 use crate::flaws::TableFlaw;
 use crate::prices::step_price;
@@ -26,7 +26,7 @@ fn undercuts(list: &PriceList, tables: &Tables, start: usize, place: usize, tota
     }
 }
 
-/// The least end of a step from a place that the row of the start doesn't vouch for.
+/// The least end of a step from a place that the table of the start doesn't vouch for.
 fn first_end(
     chain: &Chain,
     pairs: &Pairs,
@@ -53,7 +53,7 @@ fn first_end(
     None
 }
 
-/// The first flaw in the row of a start.
+/// The first flaw in the table of a start.
 fn first_flaw_from(
     chain: &Chain,
     pairs: &Pairs,
@@ -64,7 +64,7 @@ fn first_flaw_from(
     requires start { start < positions chain.now }
     requires pairs { pairs.now ≡ inverse_pairs chain.now }
     requires sizes { FitsCounts (length chain.now) (length (inverse_pairs chain.now)) list.now }
-    ensures { IsFirstInRow chain.now list.now tables.now start result }
+    ensures { IsFirstInTable chain.now list.now tables.now start result }
 {
     let positions = chain.positions();
     if tables.entry(start, start) != Some(0) {
@@ -84,7 +84,7 @@ fn first_flaw_from(
     None
 }
 
-/// Whether the tables vouch for the list, else their first flaw: by start; for a start first that its row doesn't
+/// Whether the tables vouch for the list, else their first flaw: by start; for a start first that its table doesn't
 /// have 0 there, then the steps by their beginning, then their end.
 pub fn vouch(
     chain: &Chain,

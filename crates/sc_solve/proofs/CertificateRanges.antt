@@ -70,9 +70,9 @@ weights_at [] all w inside = absurd (omega arith)
 weights_at (v ∷ c) all zero inside = (all.0.low, all.0.high)
 weights_at (v ∷ c) all (suc w) inside = weights_at c all.1 w (omega arith)
 
-rows_in_range : (n : ℕ) (tables : Tables) → AllByRecursion (λ row. length row ≡ n) tables → AreSmallTables tables → AllByRecursion (IsTableInRange n) tables
-rows_in_range n [] sizes small = tt
-rows_in_range n (row ∷ tables) sizes small = (record { count_is = sizes.0; entries_in_range = small.0 }, rows_in_range n tables sizes.1 small.1)
+tables_in_range : (n : ℕ) (tables : Tables) → AllByRecursion (λ table. length table ≡ n) tables → AreSmallTables tables → AllByRecursion (IsTableInRange n) tables
+tables_in_range n [] sizes small = tt
+tables_in_range n (table ∷ tables) sizes small = (record { count_is = sizes.0; entries_in_range = small.0 }, tables_in_range n tables sizes.1 small.1)
 
 -- a lift has a base price for each word of its chain and a price for each pair
 pub lift_counts : (c : Chain) (p : PriceRows) (list : Prices) → IsLift c p list → FitsCounts (length c) (length (pairs c)) list
@@ -112,8 +112,8 @@ certificate_in_range c f v list tables journal small in_range over surface value
       sides = text.sides;
       list = list_small;
       counts = subst (λ (d : Chain). FitsCounts (length d) (length (pairs d)) list) (sym over) counts;
-      rows = subst (λ (d : Chain). length tables ≡ positions d) (sym over) sizes.rows;
-      tables = subst (λ (d : Chain). AllByRecursion (IsTableInRange (positions d)) tables) (sym over) (rows_in_range (positions c) tables sizes.entries tables_small);
+      table_count = subst (λ (d : Chain). length tables ≡ positions d) (sym over) sizes.count;
+      tables = subst (λ (d : Chain). AllByRecursion (IsTableInRange (positions d)) tables) (sym over) (tables_in_range (positions c) tables sizes.entries tables_small);
       few_pivots = few;
       journal = subst (λ (d : Chain). AllByRecursion (IsPivotInRange d) journal) (sym over) pivots;
     }

@@ -10,7 +10,7 @@ pub mod PairRows
 pub mod LiftedRows
 pub mod ListSizes
 pub mod ListTotals
-pub mod ListRows
+pub mod TableEntries
 pub mod PolygonJournals
 pub mod PartCounts
 pub mod LastBases

@@ -51,18 +51,18 @@ wider_high g new z h k = omega (arith, ints)
 
 -- the cell with the number n
 module _ (c : Chain) (price : ℕ → ℕ → ℤ) (n side : ℕ) (s : ℤ) (side_is : side ≡ positions c) (is : IsSizeOfStep c price (n / side) (n % side) s) where
-  cell_row : (i j : ℕ) → IsStep c i j → i * positions c + j ≡ n → n / side ≡ i
-  cell_row i j step at = ap₂ (λ (m p : ℕ). m / p) (sym at) side_is ∙ div-mul-add i (positions c) j step.to
+  cell_start : (i j : ℕ) → IsStep c i j → i * positions c + j ≡ n → n / side ≡ i
+  cell_start i j step at = ap₂ (λ (m p : ℕ). m / p) (sym at) side_is ∙ div-mul-add i (positions c) j step.to
 
-  cell_column : (i j : ℕ) → IsStep c i j → i * positions c + j ≡ n → n % side ≡ j
-  cell_column i j step at = ap₂ (λ (m p : ℕ). m % p) (sym at) side_is ∙ mod-mul-add i (positions c) j step.to
+  cell_end : (i j : ℕ) → IsStep c i j → i * positions c + j ≡ n → n % side ≡ j
+  cell_end i j step at = ap₂ (λ (m p : ℕ). m % p) (sym at) side_is ∙ mod-mul-add i (positions c) j step.to
 
   size_at : (i j : ℕ) → IsStep c i j → i * positions c + j ≡ n → s ≡ pos (unsigned_abs (price i j))
   size_at i j step at =
-      let row : n / side ≡ i = cell_row i j step at in
-      let column : n % side ≡ j = cell_column i j step at in
-      is.on (subst (λ (x : ℕ). IsStep c x (n % side)) (sym row) (subst (IsStep c i) (sym column) step))
-      ∙ ap₂ (λ (x y : ℕ). pos (unsigned_abs (price x y))) row column
+      let begins : n / side ≡ i = cell_start i j step at in
+      let ends : n % side ≡ j = cell_end i j step at in
+      is.on (subst (λ (x : ℕ). IsStep c x (n % side)) (sym begins) (subst (IsStep c i) (sym ends) step))
+      ∙ ap₂ (λ (x y : ℕ). pos (unsigned_abs (price x y))) begins ends
 
   module _ (g new : ℤ) (before : IsGreatestBefore c price n g) (first : g ≤ℤ new) (second : s ≤ℤ new) where
     low_after : (i j : ℕ) → IsStep c i j → i * positions c + j < n + 1 → neg_ℤ new ≤ℤ price i j

@@ -101,7 +101,7 @@ fn greatest_size(chain: &Chain, steps: &StepPrices<Pair>) -> Result<i128, WideAt
 {
     let side = chain.positions();
     let mut greatest = 0;
-    // One loop over the cells of a square, row by row: a loop in a loop would need an invariant for each.
+    // One loop over the cells of a square: a loop in a loop would need an invariant for each.
     for cell in 0..side * side {
         let size = step_size(chain, steps, cell / side, cell % side)?;
         greatest = greater(greatest, size);

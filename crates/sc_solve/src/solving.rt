@@ -63,7 +63,7 @@ fn check_tables(tables: &Tables)
     ensures { AreSmallTables tables.now }
 {
     // For its contract alone, as in `check_chain`.
-    let _rows = tables.rows();
+    let _count = tables.len();
 }
 
 /// The solution with this surface and this list.

@@ -12,10 +12,10 @@ ghost use Rattle.sc_tables.specs.Tables.{AreLeastTotals, VouchFor};
 ghost use Rattle.sc_tables.specs.StepPrices.{price_in};
 ghost use Rattle.sc_tables.specs.CheapPolygons.{entry_in};
 ghost use Rattle.sc_solve.specs.ListSteps.{plain, number, one_level, plain_levels, AreListSteps};
-ghost use Rattle.sc_solve.specs.inside.ListSteps.{IsRowOf, AreRowsOf};
+ghost use Rattle.sc_solve.specs.inside.ListSteps.{IsTableOf, AreFirstTables};
 ghost use Rattle.sc_solve.specs.ListTables.{AreDistances};
 
-use sc_certificate::{PriceList, Row, Tables};
+use sc_certificate::{PriceList, Table, Tables};
 use sc_chain::{Chain, Pairs};
 use sc_tables::{Distances, Found, StepFault, StepPrices, TableFault, cheap_polygon};
 use sc_weight::Plain;
@@ -80,38 +80,38 @@ fn least_totals(
     }
 }
 
-/// The row of a start.
-fn row_of(
+/// The table of a start.
+fn table_of(
     alloc: Global,
     distances: &Distances<Plain>,
     start: u32,
     positions: u32,
-) -> Result<Row, AllocError>
+) -> Result<Table, AllocError>
     requires start { start < distances.now.side }
     requires positions { positions ≡ distances.now.side }
     requires small { (j : ℕ) → j < positions → IsEntryInRange (option_map number (cell distances.now start j)) }
-    ensures { IfOk result (IsRowOf distances.now start positions) }
+    ensures { IfOk result (IsTableOf distances.now start positions) }
 {
     let mut entries = Vec::with_capacity(alloc, positions as usize)?;
     for place in 0..positions {
         entries.push(distances.at(start, place).map(|total| total.0))?;
     }
-    Ok(Row::of_small(entries))
+    Ok(Table::of_small(entries))
 }
 
-/// The rows of all starts.
-fn rows_of(
+/// The tables of all starts.
+fn all_tables(
     alloc: Global,
     distances: &Distances<Plain>,
     positions: u32,
 ) -> Result<Tables, AllocError>
     requires positions { positions ≡ distances.now.side }
     requires small { (s j : ℕ) → s < positions → j < positions → IsEntryInRange (option_map number (cell distances.now s j)) }
-    ensures { IfOk result (AreRowsOf distances.now positions) }
+    ensures { IfOk result (AreFirstTables distances.now positions) }
 {
     let mut tables = Tables::new(alloc);
     for start in 0..positions {
-        tables.push(row_of(alloc, distances, start, positions)?)?;
+        tables.push(table_of(alloc, distances, start, positions)?)?;
     }
     Ok(tables)
 }
@@ -133,6 +133,6 @@ pub fn tables_of(
     let positions = chain.positions();
     let prices = list_steps(alloc, chain, pairs, list)?;
     let distances = least_totals(alloc, chain, list, &prices)?;
-    let tables = rows_of(alloc, &distances, positions as u32)?;
+    let tables = all_tables(alloc, &distances, positions as u32)?;
     Ok(tables)
 }

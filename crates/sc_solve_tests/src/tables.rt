@@ -63,9 +63,9 @@ fn tables_hold_the_least_totals(rt: HostRuntime) -> Result<(), Fail> {
     for parts in [OF_COMMUTATOR, OF_ANNULUS, OF_LETTER_APART, OF_NOTHING] {
         let text = text_of(rt.alloc(), parts)?;
         let (stated, made) = both_tables(rt.alloc(), text.as_slice())?;
-        assert_eq!(rt; made.rows(), stated.rows());
-        for start in 0..stated.rows() {
-            for place in 0..stated.rows() {
+        assert_eq!(rt; made.len(), stated.len());
+        for start in 0..stated.len() {
+            for place in 0..stated.len() {
                 assert_eq!(rt;
                     made.entry(start, place),
                     stated.entry(start, place),

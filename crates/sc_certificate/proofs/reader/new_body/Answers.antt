@@ -16,6 +16,6 @@ returns c = λ h i.
     both_due (one_due a_scale (c.new-3.ensures.unread i)) (λ d.
     both_due (many_due (λ b. a_base) (length h.chain) (c.new-4.ensures.unread i)) (λ base.
     both_due (many_due (λ b. a_pair (pair_at h.chain (length b))) (length (pairs h.chain)) (c.new-5.ensures.unread i)) (λ pair.
-    both_due (many_due (λ b. a_table (positions h.chain) (length b)) (positions h.chain) (c.new-6.ensures.unread i)) (λ rows.
+    both_due (many_due (λ b. a_table (positions h.chain) (length b)) (positions h.chain) (c.new-6.ensures.unread i)) (λ tables.
     both_due (counted_from (c.new-7.ensures.name i) (c.new-7.ensures.most i) (λ b. a_pivot h.chain) (c.new-7.ensures.uncounted i) (c.new-7.ensures.unread i)) (λ journal.
     literal_due (c.new-8.ensures.text i) (c.new-8.ensures.unread i))))))))

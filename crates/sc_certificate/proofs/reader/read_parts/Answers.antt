@@ -1,8 +1,7 @@
-use Rattle.std.proofs.Common.{◌≡◌, FitsSigned, to_z-of_z, rules, sym, subst}
+use Rattle.std.proofs.Common.{FitsSigned, to_z-of_z, rules, sym, subst}
 use Rattle.std.specs.Int.{w128}
 use Rattle.sc_line.specs.Formats.{Format, IsShort}
-use Rattle.sc_text.specs.declared.limits.TheConstants.{VERSION_1}
-use Rattle.sc_certificate.specs.Certificates.{Certificate, certificate_due}
+use Rattle.sc_certificate.specs.Certificates.{Certificate}
 use Rattle.sc_certificate.proofs.CertificateLaws.{short_certificate}
 use Rattle.sc_certificate.proofs.TextLaws.{certificate_read, told_in_range, small_tables, told_as}
 use Rattle.sc_certificate.proofs.reader.read_parts.Goals as goal

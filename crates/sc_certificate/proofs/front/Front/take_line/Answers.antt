@@ -1,5 +1,4 @@
 use Rattle.std.proofs.Common.{◌≡◌, false, subst, sym}
-use Rattle.std.proofs.lemmas.Result.{on_ok_weaker}
 use Rattle.sc_line.specs.Formats.{is_told}
 use Rattle.sc_certificate.specs.Fronts.{FrontSoFar, front_at}
 use Rattle.sc_certificate.specs.FrontRead.{front_so_far}

@@ -1,10 +1,9 @@
-use Rattle.std.proofs.Common.{◌≡◌, true, ap, sym, subst, ◌∙◌}
-use Rattle.sc_line.specs.Formats.{told, is_told}
+use Rattle.std.proofs.Common.{◌≡◌, ap, sym, subst, ◌∙◌}
+use Rattle.sc_line.specs.Formats.{told}
 use Rattle.sc_line.specs.Forms.{and_also}
 use Rattle.sc_theory.specs.Chains.{Chain}
 use Rattle.sc_text.specs.Surfaces.{IsChainInRange}
 use Rattle.sc_certificate.specs.Fronts.{FrontSoFar, front_at, IsReached}
-use Rattle.sc_certificate.specs.FrontRead.{front_so_far}
 use Rattle.sc_certificate.proofs.LineLaws.{words_told, words_in_range}
 use Rattle.sc_certificate.proofs.front.Front.words.Goals as goal
 

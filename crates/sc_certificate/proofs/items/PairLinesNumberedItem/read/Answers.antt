@@ -1,4 +1,4 @@
-use Rattle.std.proofs.Common.{◌≡◌, ℕ, length, get_or, FitsSigned, to_z-of_z, rules, ap, subst, ◌∙◌}
+use Rattle.std.proofs.Common.{◌≡◌, ℕ, length, get_or, FitsSigned, to_z-of_z, rules, subst, ◌∙◌}
 use Rattle.std.specs.Int.{w128}
 use Rattle.sc_theory.specs.Columns.{pair_at}
 use Rattle.sc_line.specs.Forms.{Tells}

@@ -1,4 +1,4 @@
-use Rattle.std.proofs.Common.{◌≡◌, true, false, sym, ◌∙◌}
+use Rattle.std.proofs.Common.{sym, ◌∙◌}
 use Rattle.std.proofs.lemmas.Result.{err_from_is_err_and, on_ok_weaker, on_err_weaker, IfErr-weaker}
 use Rattle.sc_certificate.specs.Fronts.{front_at}
 use Rattle.sc_certificate.proofs.LineLaws.{body_told, body_steps, body_fault, body_same, front_steps, front_fault, front_same, value_steps, value_refused}

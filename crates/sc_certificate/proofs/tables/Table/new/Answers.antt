@@ -1,7 +1,7 @@
 use Rattle.std.proofs.Common.{◌∙◌, sym, refl}
 use Rattle.std.proofs.lemmas.Bool.{false≢true}
 use Rattle.sc_certificate.proofs.SmallLists.{entries_decided}
-use Rattle.sc_certificate.proofs.tables.Row.new.Goals as goal
+use Rattle.sc_certificate.proofs.tables.Table.new.Goals as goal
 
 pub invariant_of-result : goal.invariant_of-result
 invariant_of-result c =
