@@ -8,7 +8,7 @@ ghost use Rattle.sc_app.specs.Check.{CheckResponds, optimal};
 use crate::answer::Answer;
 use crate::rejection::rejected;
 use sc_fraction::Frac;
-use sc_prices::{Certificate, Verdict};
+use sc_prices::{Certificate, Verdict, judge};
 use std::alloc::{AllocError, Global};
 
 /// The line of a least value.
@@ -30,7 +30,7 @@ pub fn answer_check(alloc: Global, input: &[u8]) -> Result<Answer, AllocError>
         Ok(certificate) => certificate,
         Err(fault) => return Answer::to_fault(fault),
     };
-    match certificate.judge(alloc)? {
+    match judge(alloc, certificate)? {
         Verdict::Optimal(value) => Ok(Answer::Text(optimal_text(alloc, &value)?)),
         Verdict::Rejected(condition) => rejected(alloc, condition),
     }

@@ -8,7 +8,7 @@ ghost use Rattle.sc_app.specs.Said.{IsSaid, Says, heading_of, is_headed_as_certi
 use crate::answer::Answer;
 use crate::rejection::rejected;
 use sc_chain::TextFault;
-use sc_fatgraph::{Fatgraph, SurfaceFault, SurfaceText, read_surface};
+use sc_fatgraph::{Fatgraph, Sides, SurfaceFault, SurfaceText, read_surface};
 use sc_prices::{Certificate, Condition};
 use std::alloc::{AllocError, Global};
 
@@ -62,7 +62,11 @@ fn read_said(alloc: Global, input: &[u8]) -> Result<SurfaceText, TextFault>
                 sides,
                 ..
             } = Certificate::read(alloc, input)?;
-            Ok(SurfaceText { chain, n, sides })
+            Ok(SurfaceText {
+                chain,
+                n,
+                sides: Sides::from_vec(sides),
+            })
         }
     }
 }

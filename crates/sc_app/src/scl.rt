@@ -13,7 +13,6 @@ ghost use Rattle.sc_app.specs.Scl.{SclResponds, IsValueOf, IsToldBy, infinite};
 use crate::answer::Answer;
 use crate::limits::MAX_CHAIN_BYTES;
 use sc_chain::{Chain, ChainFault, read_lines};
-use sc_fatgraph::Sides;
 use sc_prices::Certificate;
 use sc_reduce::reduce_lines;
 use sc_refusal::{budget_text, sides_text, wide_text};
@@ -50,7 +49,7 @@ fn certificate_text(alloc: Global, chain: Chain, solution: Solution) -> Result<V
         value,
         ..
     } = solution;
-    let sides = Sides::from_vec(Vec::from_slice(alloc, fatgraph.sides().as_slice())?);
+    let sides = Vec::from_slice(alloc, fatgraph.sides().as_slice())?;
     let certificate = Certificate {
         chain,
         value,

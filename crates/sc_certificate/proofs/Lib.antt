@@ -5,4 +5,5 @@ pub mod TextLaws
 pub mod LineLaws
 pub mod SpelledLaws
 pub mod PrintedLines
+pub mod Pieces
 pub mod BoundSums

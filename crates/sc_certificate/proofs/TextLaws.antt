@@ -13,7 +13,7 @@ use Rattle.sc_certificate.specs.Sizes.{AreSmallTables}
 use Rattle.sc_line.specs.Forms.{IsToldBy}
 use Rattle.sc_line.proofs.TextLaws as texts
 use Rattle.sc_text.specs.declared.limits.TheConstants.{VERSION_1}
-use Rattle.sc_certificate.specs.declared.certificate.CertificateText.{CertificateText}
+use Rattle.sc_certificate.specs.declared.certificate.Certificate.{Certificate as CertificateParts}
 use Rattle.sc_certificate.specs.Certificates.{Certificate, certificate_form, certificate_due, certificate_text, certificate_plan, IsCertificateInRange}
 use Rattle.sc_certificate.specs.CertificateRead.{certificate_of, IsCertificateRead}
 use Rattle.sc_certificate.proofs.CertificateLaws.{all_lines, lawful_certificate}
@@ -35,10 +35,10 @@ text_is_of_one = texts.text_is_of_one (certificate_form VERSION_1).lines (certif
 -- ---- a certificate that was read
 
 -- a certificate that the lines told, or a fault of the text, is what a reader of certificates answers
-pub certificate_read : (bytes : List ℕ) (r : Result CertificateText TextFault) → IfOk r (λ t. IsToldBy (certificate_due VERSION_1) bytes (certificate_of t)) → IfErr r (IsFaultOf (plan_of (certificate_due VERSION_1)) bytes) → IsCertificateRead bytes r
+pub certificate_read : (bytes : List ℕ) (r : Result CertificateParts TextFault) → IfOk r (λ t. IsToldBy (certificate_due VERSION_1) bytes (certificate_of t)) → IfErr r (IsFaultOf (plan_of (certificate_due VERSION_1)) bytes) → IsCertificateRead bytes r
 certificate_read bytes r = texts.text_of_read (certificate_form VERSION_1).lines (certificate_due VERSION_1) IsCertificateInRange all_lines lawful_certificate bytes certificate_of r
 
-module _ (bytes : List ℕ) (r : Result CertificateText TextFault) (read : IsCertificateRead bytes r) where
+module _ (bytes : List ℕ) (r : Result CertificateParts TextFault) (read : IsCertificateRead bytes r) where
   -- a text that was read has no fault
   pub is_faultless : OnOk r (IsFaultless certificate_plan bytes)
   unfolding certificate_plan
@@ -63,7 +63,7 @@ module _ (bytes : List ℕ) (r : Result CertificateText TextFault) (read : IsCer
   is_memory = texts.memory (certificate_form VERSION_1).lines (certificate_due VERSION_1) IsCertificateInRange all_lines lawful_certificate bytes certificate_of r read
 
 -- what was printed is read as the same certificate, unless memory runs out
-pub printed_is_read : (v : Certificate) (r : Result CertificateText TextFault) → IsCertificateInRange v → IsCertificateRead (certificate_text v) r → MatchResult r (λ t. certificate_of t ≡ v) (λ e. e ≡ text_faults.Memory)
+pub printed_is_read : (v : Certificate) (r : Result CertificateParts TextFault) → IsCertificateInRange v → IsCertificateRead (certificate_text v) r → MatchResult r (λ t. certificate_of t ≡ v) (λ e. e ≡ text_faults.Memory)
 printed_is_read v (Ok t) h read = is_same (certificate_text v) (Ok t) read v h refl
 printed_is_read v (Err e) h read = is_memory (certificate_text v) (Err e) read v h refl
 

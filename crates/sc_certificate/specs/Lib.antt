@@ -5,6 +5,7 @@ pub mod Heads
 pub mod Fronts
 pub mod FrontRead
 pub mod CertificateRead
+pub mod Parts
 pub mod Spelled
 pub mod Bounds
 pub mod inside

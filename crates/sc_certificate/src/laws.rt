@@ -3,7 +3,7 @@
 ghost use Rattle.std.specs.Prelude.{◌≡◌, ℕ, List, Result, MatchResult};
 ghost use Rattle.sc_line.specs.declared.fault.TextFault.{TextFault};
 ghost use Rattle.sc_line.specs.declared.fault.TextFault.TheVariants.{Memory};
-ghost use Rattle.sc_certificate.specs.declared.certificate.CertificateText.{CertificateText};
+ghost use Rattle.sc_certificate.specs.declared.certificate.Certificate.{Certificate as CertificateParts};
 ghost use Rattle.sc_certificate.specs.CertificateRead.{certificate_of, IsCertificateRead};
 ghost use Rattle.sc_theory.specs.Chains.{Chain};
 ghost use Rattle.sc_line.specs.Faults.{IsFaultless};
@@ -33,6 +33,6 @@ pub fn certificate_text_is_of_one_certificate()
 
 /// What was printed of a certificate is read as the same certificate, unless memory runs out.
 pub fn printed_certificates_are_read()
-    ensures { (v : Certificate) (r : Result CertificateText TextFault) → IsCertificateInRange v → IsCertificateRead (certificate_text v) r
+    ensures { (v : Certificate) (r : Result CertificateParts TextFault) → IsCertificateInRange v → IsCertificateRead (certificate_text v) r
         → MatchResult r (λ t. certificate_of t ≡ v) (λ e. e ≡ Memory) }
 {}

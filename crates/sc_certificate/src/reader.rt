@@ -1,18 +1,15 @@
 //! The reader of a certificate text.
 
-ghost use Rattle.std.specs.Prelude.{◌≡◌, ◌⊎◌, ℕ, IsErrAnd, IfOk, IfErr, OnOk};
-ghost use Rattle.sc_line.specs.declared.fault.Kind.{Kind};
-ghost use Rattle.sc_line.specs.declared.fault.TextFault.TheVariants as text_faults;
-ghost use Rattle.sc_line.specs.Faults.{IsFaultless, IsFaultOf, IsFirstFault};
+ghost use Rattle.std.specs.Prelude.{◌≡◌};
 ghost use Rattle.sc_line.specs.Forms.{and_also};
 ghost use Rattle.sc_text.specs.ValueLines.{quotient_of};
-ghost use Rattle.sc_certificate.specs.Certificates.{Certificate, certificate_told, body_form, no_body, certificate_due, certificate_text, certificate_plan, IsCertificateInRange};
-ghost use Rattle.sc_certificate.specs.CertificateRead.{certificate_of, IsCertificateRead};
+ghost use Rattle.sc_certificate.specs.Certificates.{Certificate as AnyCertificate, certificate_told, body_form, no_body, certificate_due};
+ghost use Rattle.sc_certificate.specs.CertificateRead.{IsCertificateRead};
 ghost use Rattle.sc_certificate.specs.Fronts.{front_at};
 ghost use Rattle.sc_text.specs.declared.limits.TheConstants.{VERSION_1};
 ghost use Rattle.sc_certificate.specs.Heads.{ChainAndValue, lines_at};
 
-use crate::certificate::CertificateText;
+use crate::certificate::Certificate;
 use crate::front::Front;
 use crate::head::Head;
 use crate::items::{BaseLines, PairLines, TableLines};
@@ -75,7 +72,7 @@ impl LinePart for CertificateLines {
 
     type Out = (Chain, Frac, BodyOut);
 
-    ghost Told = { Certificate };
+    ghost Told = { AnyCertificate };
 
     ghost says = { λ out. certificate_told (and_also (and_also tt out.0) (and_also (quotient_of out.1) (⟦<Body as LinePart>⟧.says out.2))) };
 
@@ -173,42 +170,20 @@ impl CertificateLines {
     }
 }
 
-// Reads by the parts. A function of its own, as all clauses of `read_certificate_text` follow from this one.
-fn read_parts(alloc: Global, bytes: &[u8]) -> Result<CertificateText, TextFault>
+/// Reads by the parts. A function of its own, as all clauses of `Certificate::read` follow from this one.
+pub(crate) fn read_parts(alloc: Global, bytes: &[u8]) -> Result<Certificate, TextFault>
     ensures { IsCertificateRead bytes.now result }
 {
     let lines = CertificateLines::new(alloc);
     let (chain, value, out) = read_by_lines(alloc, lines, &(), bytes)?;
-    let (copies, (sides, (scale, (base, (pair, (tables, (journal, _))))))) = out;
-    Ok(CertificateText {
+    let (n, (sides, (scale, (base, (pair, (tables, (journal, _))))))) = out;
+    Ok(Certificate {
         chain,
         value,
-        copies,
+        n,
         sides,
         list: PriceList::of_small(scale, base, pair),
         tables: Tables::of_small(tables),
         journal,
     })
-}
-
-/// The certificate whose text the bytes are. A fault is the first line, counted from 1, that isn't as it is due, with
-/// the first kind that applies to it.
-pub fn read_certificate_text(alloc: Global, bytes: &[u8]) -> Result<CertificateText, TextFault>
-    // What is read is the certificate of which the bytes are the text.
-    ensures text { IfOk result (λ t. bytes.now ≡ certificate_text (certificate_of t)) }
-    ensures in_range { IfOk result (λ t. IsCertificateInRange (certificate_of t)) }
-    ensures faultless { OnOk result (IsFaultless certificate_plan bytes.now) }
-
-    // The fault that is answered is the first one.
-    ensures malformed { IfErr result (IsFaultOf certificate_plan bytes.now) }
-
-    // The first fault is answered, unless memory runs out.
-    ensures only { (line : ℕ) (kind : Kind) → IsFirstFault certificate_plan bytes.now line kind
-        → IsErrAnd result (λ e. (e ≡ text_faults.Malformed line kind) ⊎ (e ≡ text_faults.Memory)) }
-
-    // The text of a certificate in its ranges is read as that certificate, unless memory runs out.
-    ensures read { (v : Certificate) → IsCertificateInRange v → bytes.now ≡ certificate_text v → IfOk result (λ t. certificate_of t ≡ v) }
-    ensures memory { (v : Certificate) → IsCertificateInRange v → bytes.now ≡ certificate_text v → IfErr result (λ e. e ≡ text_faults.Memory) }
-{
-    read_parts(alloc, bytes)
 }

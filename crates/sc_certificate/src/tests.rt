@@ -14,11 +14,11 @@ const TEXT_E: &[u8] =
 
 #[test]
 fn text_c_is_read(rt: HostRuntime) -> Result<(), Fail> {
-    let certificate = read_certificate_text(rt.alloc(), TEXT_C)?;
+    let certificate = Certificate::read(rt.alloc(), TEXT_C)?;
     assert_eq!(rt; certificate.chain.positions(), 4);
     assert_eq!(rt; certificate.value.num(), 1);
     assert_eq!(rt; certificate.value.den(), 2);
-    assert_eq!(rt; certificate.copies, 1);
+    assert_eq!(rt; certificate.n, 1);
     assert_eq!(rt; certificate.sides.len(), 4);
     assert_eq!(rt; certificate.list.scale(), 1);
     assert_eq!(rt; certificate.list.base(), [1].as_slice());
@@ -32,12 +32,12 @@ fn text_c_is_read(rt: HostRuntime) -> Result<(), Fail> {
 
 #[test]
 fn texts_d_and_e_are_read(rt: HostRuntime) -> Result<(), Fail> {
-    let certificate = read_certificate_text(rt.alloc(), TEXT_D)?;
+    let certificate = Certificate::read(rt.alloc(), TEXT_D)?;
     assert_eq!(rt; certificate.chain.words(), 2);
     assert_eq!(rt; certificate.value.num(), 0);
     assert_eq!(rt; certificate.list.base(), [-3, 4].as_slice());
     assert_eq!(rt; certificate.tables.len(), 2);
-    let certificate = read_certificate_text(rt.alloc(), TEXT_E)?;
+    let certificate = Certificate::read(rt.alloc(), TEXT_E)?;
     assert_eq!(rt; certificate.chain.words(), 0);
     assert_eq!(rt; certificate.sides.len(), 0);
     assert_eq!(rt; certificate.journal.len(), 0);
@@ -45,7 +45,7 @@ fn texts_d_and_e_are_read(rt: HostRuntime) -> Result<(), Fail> {
 }
 
 fn fault_of(rt: &HostRuntime, text: &[u8]) -> Option<(u32, Kind)> {
-    match read_certificate_text(rt.alloc(), text) {
+    match Certificate::read(rt.alloc(), text) {
         Err(TextFault::Malformed { line, kind }) => Some((line, kind)),
         _ => None,
     }
@@ -160,5 +160,15 @@ fn a_text_that_is_cut_has_ended(rt: HostRuntime) -> Result<(), Fail> {
     }
     text.push(b'x')?;
     assert_eq!(rt; fault_of(&rt, text.as_slice()), Some((22, Kind::Rest)));
+    Ok(())
+}
+
+#[test]
+fn prints_what_was_read(rt: HostRuntime) -> Result<(), Fail> {
+    for text in [TEXT_C, TEXT_D, TEXT_E] {
+        let mut printed = Vec::new(rt.alloc());
+        Certificate::read(rt.alloc(), text)?.print(&mut printed)?;
+        assert_eq!(rt; printed.as_slice(), text);
+    }
     Ok(())
 }

@@ -21,12 +21,13 @@ use Rattle.sc_theory.specs.Fatgraphs.{IsFatgraph, IsLeast, cost}
 use Rattle.sc_fatgraph.specs.declared.flaws.FlawKind.{FlawKind}
 use Rattle.sc_fatgraph.proofs.FlawLaws as sides
 use Rattle.sc_certificate.specs.Certificates.{Certificate, IsCertificateInRange}
-use Rattle.sc_prices.specs.declared.certificate.Certificate.{Certificate as CertificateParts}
+use Rattle.sc_certificate.specs.CertificateRead.{certificate_of}
+use Rattle.sc_certificate.specs.declared.certificate.Certificate.{Certificate as CertificateParts}
 use Rattle.sc_prices.specs.declared.verdict.Verdict.{Verdict}
 use Rattle.sc_prices.specs.declared.verdict.Verdict.TheVariants.{Optimal, Rejected}
 use Rattle.sc_prices.specs.declared.verdict.Condition.{Condition}
 use Rattle.sc_prices.specs.declared.verdict.Condition.TheVariants.{Flaw, Value, Table, NotTight}
-use Rattle.sc_prices.specs.Conditions.{stated, certificate_of, AllHold, IsFirstFailing, IsVerdictOn, IfOptimal}
+use Rattle.sc_prices.specs.Conditions.{stated, AllHold, IsFirstFailing, IsVerdictOn, IfOptimal}
 use Rattle.sc_prices.proofs.TableFlaws.{first_flaw_alone, vouch_flawless}
 
 no_flaw : (v : Certificate) (kind : FlawKind) (place : ℕ) → IsFatgraph v.chain v.copies v.sides → IsFirstFailing v (Flaw kind place) → ⊥
@@ -100,8 +101,8 @@ all_make_least v chain above all = least v.chain v.list v.copies v.sides chain a
 pub record Tells (s : CertificateParts) (x : Verdict) : Type 0 where
   pub optimal : AllHold (certificate_of s) → x ≡ Optimal s.value
   pub rejected : (k : Condition) → IsFirstFailing (certificate_of s) k → x ≡ Rejected k
-  pub least : IfOptimal x (λ value. IsLeast s.chain s.n s.sides)
-  pub value : IfOptimal x (IsQuotient (cost s.sides) (pos (2 * s.n)))
+  pub least : IfOptimal x (λ value. IsLeast s.chain s.n s.sides.items)
+  pub value : IfOptimal x (IsQuotient (cost s.sides.items) (pos (2 * s.n)))
 
 same_stated : (s : CertificateParts) (y : Frac) → (certificate_of s).value ≡ (numerator y, denominator y) → y ≡ s.value
 same_stated s y e =
@@ -114,7 +115,7 @@ verdict_tells s (Optimal y) range (value, all) = record {
   optimal = λ _. ap Optimal (same_stated s y value);
   rejected = λ k f. absurd (none_failing (certificate_of s) k f all);
   least = all_make_least (certificate_of s) (chain_is s.chain range.chain) (omega (arith, ints, range.list.scale.low)) all;
-  value = subst (IsQuotient (cost s.sides) (pos (2 * s.n))) (sym (same_stated s y value)) all.value;
+  value = subst (IsQuotient (cost s.sides.items) (pos (2 * s.n))) (sym (same_stated s y value)) all.value;
 }
 verdict_tells s (Rejected k) range fails = record {
   optimal = λ all. absurd (none_failing (certificate_of s) k fails all);
@@ -124,7 +125,7 @@ verdict_tells s (Rejected k) range fails = record {
 }
 
 -- the verdict on a certificate is that on its surface
-pub verdict_of_surface : {E : Type 0} (s : CertificateParts) (f : Surface) (r : Result Verdict E) → f ≡ surface s.chain s.n s.sides
+pub verdict_of_surface : {E : Type 0} (s : CertificateParts) (f : Surface) (r : Result Verdict E) → f ≡ surface s.chain s.n s.sides.items
     → IfOk r (λ x. (journal : List Pivot) → IsVerdictOn (stated f s.value s.list s.tables journal) x) → IfOk r (IsVerdictOn (certificate_of s))
 verdict_of_surface s f r is h =
     IfOk-weaker r (λ x. (journal : List Pivot) → IsVerdictOn (stated f s.value s.list s.tables journal) x) (IsVerdictOn (certificate_of s))

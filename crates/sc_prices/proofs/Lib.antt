@@ -2,4 +2,3 @@ pub mod StepPrices
 pub mod Sizes
 pub mod TableFlaws
 pub mod Failing
-pub mod Pieces

@@ -6,12 +6,11 @@ use Rattle.sc_fraction.specs.declared.frac.Frac.{Frac}
 use Rattle.sc_fraction.specs.Quotient.{SameQuotient}
 use Rattle.sc_text.specs.ValueLines.{quotient_of}
 use Rattle.sc_chain.specs.declared.polygon.Pivot.{Pivot}
-use Rattle.sc_fatgraph.specs.Surfaces.{Surface, surface}
+use Rattle.sc_fatgraph.specs.Surfaces.{Surface}
 use Rattle.sc_fatgraph.specs.Flaws.{IsFirstFlaw}
 use Rattle.sc_certificate.specs.Certificates.{Certificate}
 use Rattle.sc_prices.specs.Flaws.{IsFirstTableFlaw}
 use Rattle.sc_prices.specs.declared.flaws.TableFlaw.{TableFlaw}
-use Rattle.sc_prices.specs.declared.certificate.Certificate.{Certificate as CertificateParts}
 use Rattle.sc_prices.specs.declared.verdict.Condition.{Condition}
 use Rattle.sc_prices.specs.declared.verdict.Condition.TheVariants.{Flaw, Value, Table, NotTight}
 use Rattle.sc_prices.specs.declared.verdict.Verdict.{Verdict}
@@ -29,10 +28,6 @@ stated f value list tables journal =
       tables = tables;
       journal = journal;
     }
-
--- what a certificate says
-abbrev pub certificate_of : CertificateParts → Certificate
-certificate_of s = stated (surface s.chain s.n s.sides) s.value s.list s.tables s.journal.items
 
 -- the stated value is the cost over twice the copies
 abbrev pub HasItsValue : Certificate → Type 0

@@ -1,21 +1,24 @@
-//! The conditions of a certificate, one after another.
+//! What certificates are judged to be: their conditions, one after another.
 
 ghost use Rattle.std.specs.Prelude.{◌≡◌, ◌↔◌, ◌≤◌, ◌*◌, ◌-ℤ◌, List, pos, length, IsTrue, IfOk};
-ghost use Rattle.sc_theory.specs.Fatgraphs.{vertices};
+ghost use Rattle.sc_theory.specs.Fatgraphs.{vertices, IsLeast, cost};
 ghost use Rattle.sc_theory.specs.Prices.{pairs as inverse_pairs};
 ghost use Rattle.sc_chain.specs.declared.polygon.Pivot.{Pivot};
 ghost use Rattle.sc_fraction.specs.Frac.{IsQuotient};
+ghost use Rattle.sc_certificate.specs.Certificates.{IsCertificateInRange};
+ghost use Rattle.sc_certificate.specs.CertificateRead.{certificate_of};
 ghost use Rattle.sc_certificate.specs.Sizes.{FitsCounts};
 ghost use Rattle.sc_prices.specs.inside.Answers.{IsListAnswer};
-ghost use Rattle.sc_prices.specs.Conditions.{stated, IsVerdictOn};
+ghost use Rattle.sc_prices.specs.Conditions.{stated, AllHold, IsFirstFailing, IsVerdictOn, IfOptimal};
+ghost use Rattle.sc_prices.specs.declared.verdict.Condition.{Condition as AnyCondition};
 
 use crate::tightness::tight;
 use crate::verdict::{Condition, Verdict};
 use crate::vouching::vouch;
-use sc_certificate::{PriceList, Tables};
+use sc_certificate::{Certificate, PriceList, Tables};
 use sc_chain::Pairs;
 use sc_fatgraph::limits::MAX_COPIES;
-use sc_fatgraph::{Counts, Fatgraph, fraction};
+use sc_fatgraph::{Counts, Fatgraph, Sides, SurfaceFault, fraction};
 use sc_fraction::Frac;
 use std::alloc::{AllocError, Global};
 
@@ -52,7 +55,7 @@ fn failing_of_list(
 }
 
 /// What is to be said of a value, a price list and tables beside a fatgraph.
-pub(crate) fn verdict_on(
+fn verdict_on(
     alloc: Global,
     fatgraph: &Fatgraph,
     value: Frac,
@@ -69,5 +72,32 @@ pub(crate) fn verdict_on(
     match failing_of_list(alloc, fatgraph, &counts, list, tables)? {
         Some(condition) => Ok(Verdict::Rejected(condition)),
         None => Ok(Verdict::Optimal(value)),
+    }
+}
+
+/// `Optimal` with the stated value where all conditions hold, else the first that fails.
+pub fn judge(alloc: Global, certificate: Certificate) -> Result<Verdict, AllocError>
+    requires in_range { IsCertificateInRange (certificate_of certificate) }
+    ensures verdict { IfOk result (IsVerdictOn (certificate_of certificate)) }
+    ensures optimal { AllHold (certificate_of certificate) → IfOk result (λ verdict. verdict ≡ Verdict.Optimal certificate.value) }
+    ensures rejected { (condition : AnyCondition) → IsFirstFailing (certificate_of certificate) condition → IfOk result (λ verdict. verdict ≡ Verdict.Rejected condition) }
+    ensures least { IfOk result (λ verdict. IfOptimal verdict (λ value. IsLeast certificate.chain certificate.n certificate.sides.items)) }
+    ensures value { IfOk result (λ verdict. IfOptimal verdict (IsQuotient (cost certificate.sides.items) (pos (2 * certificate.n)))) }
+{
+    let Certificate {
+        chain,
+        value,
+        n,
+        sides,
+        list,
+        tables,
+        journal: _,
+    } = certificate;
+    match Fatgraph::check(alloc, chain, n, Sides::from_vec(sides)) {
+        Ok(fatgraph) => verdict_on(alloc, &fatgraph, value, &list, &tables),
+        Err(SurfaceFault::Flaw { kind, place }) => {
+            Ok(Verdict::Rejected(Condition::Flaw { kind, place }))
+        }
+        Err(SurfaceFault::Memory) => Err(AllocError),
     }
 }

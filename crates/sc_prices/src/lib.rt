@@ -2,19 +2,17 @@
 //! whose conditions all hold shows that its fatgraph is least, whoever wrote it.
 #![tactic(auto)]
 
-mod certificate;
 mod flaws;
 mod judging;
 pub mod laws;
 mod prices;
-mod printing;
 mod tightness;
 mod verdict;
 mod vouching;
 
-pub use certificate::Certificate;
 pub use flaws::TableFlaw;
-pub use sc_certificate::{PriceList, Tables};
+pub use judging::judge;
+pub use sc_certificate::{Certificate, PriceList, Tables};
 pub use tightness::tight;
 pub use verdict::{Condition, Verdict};
 pub use vouching::vouch;

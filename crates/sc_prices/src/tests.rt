@@ -1,7 +1,6 @@
 //! Certificates that were worked out by hand, and what they are judged to be.
 
 use super::*;
-use sc_chain::{Kind, TextFault};
 use sc_fatgraph::FlawKind;
 use std::alloc::{AllocError, Global};
 use std::test::Fail;
@@ -68,7 +67,7 @@ fn text_of(alloc: Global, parts: &[&[u8]]) -> Result<Vec<u8>, AllocError> {
 fn judged(alloc: Global, parts: &[&[u8]]) -> Result<Result<(i128, i128), Condition>, Fail> {
     let text = text_of(alloc, parts)?;
     let certificate = Certificate::read(alloc, text.as_slice())?;
-    Ok(match certificate.judge(alloc)? {
+    Ok(match judge(alloc, certificate)? {
         Verdict::Optimal(value) => Ok((value.num(), value.den())),
         Verdict::Rejected(condition) => Err(condition),
     })
@@ -144,40 +143,6 @@ fn judges_worked_certificates(rt: HostRuntime) -> Result<(), Fail> {
     ];
     for (parts, want) in cases {
         assert_eq!(rt; judged(rt.alloc(), parts)?, want);
-    }
-    Ok(())
-}
-
-#[test]
-fn prints_what_was_read(rt: HostRuntime) -> Result<(), Fail> {
-    for parts in [OF_COMMUTATOR, OF_ANNULUS, OF_NOTHING] {
-        let text = text_of(rt.alloc(), parts)?;
-        let mut printed = Vec::new(rt.alloc());
-        Certificate::read(rt.alloc(), text.as_slice())?.print(&mut printed)?;
-        assert!(rt; printed == text);
-    }
-    Ok(())
-}
-
-#[test]
-fn a_text_without_its_last_line_has_ended(rt: HostRuntime) -> Result<(), Fail> {
-    let text = text_of(
-        rt.alloc(),
-        &[
-            COMMUTATOR,
-            HALF,
-            TORUS,
-            LIST,
-            FIRST_TABLE,
-            OTHER_TABLES,
-            JOURNAL,
-        ],
-    )?;
-    match Certificate::read(rt.alloc(), text.as_slice()) {
-        Err(TextFault::Malformed { line, kind }) => {
-            assert_eq!(rt; (line, kind), (21, Kind::Ended));
-        }
-        _ => assert!(rt; false),
     }
     Ok(())
 }

@@ -1,7 +1,7 @@
 //! The texts of the worked chain of two commutators, and one of each other kind.
 
 use super::*;
-use sc_certificate::{CertificateText, read_certificate_text};
+use sc_certificate::Certificate;
 use sc_chain::{Pivot, Polygon};
 use sc_fraction::Frac;
 use sc_rows::{Place, WideAt};
@@ -21,10 +21,10 @@ const FIRST_WORD_FIRST: &[u8] = b"pivot 4 0 3 2 1\npivot 5 4 7 6 5\nend\n";
 const SECOND_WORD_FIRST: &[u8] = b"pivot 5 4 7 6 5\npivot 4 0 3 2 1\nend\n";
 
 /// A certificate over the chain of the two commutators with these pivots.
-fn certificate(alloc: Global, pivots: &[u8]) -> Result<Option<CertificateText>, AllocError> {
+fn certificate(alloc: Global, pivots: &[u8]) -> Result<Option<Certificate>, AllocError> {
     let mut text = Vec::from_slice(alloc, FRONT)?;
     text.extend_from_slice(pivots)?;
-    Ok(read_certificate_text(alloc, text.as_slice()).ok())
+    Ok(Certificate::read(alloc, text.as_slice()).ok())
 }
 
 /// The pivots but the last, and the polygon of the last.

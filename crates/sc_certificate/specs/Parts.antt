@@ -9,8 +9,8 @@ use Rattle.sc_text.specs.ValueLines.{value_line}
 use Rattle.sc_certificate.specs.PivotLines.{pivot_line}
 use Rattle.sc_certificate.specs.Certificates.{Certificate, heading}
 use Rattle.sc_certificate.specs.Spelled.{pair_lines, tables_lines}
-use Rattle.sc_prices.specs.declared.printing.Part.{Part}
-use Rattle.sc_prices.specs.declared.printing.Part.TheVariants.{Heading, Words, Value, Copies, Sides, Scale, Bases, Pairs, Tables, Pivots, Journal, End}
+use Rattle.sc_certificate.specs.declared.parts.Part.{Part}
+use Rattle.sc_certificate.specs.declared.parts.Part.TheVariants.{Heading, Words, Value, Copies, Sides, Scale, Bases, Pairs, Tables, Pivots, Journal, End}
 
 -- the bytes of a part
 abbrev pub part_text : Certificate → Part → List ℕ

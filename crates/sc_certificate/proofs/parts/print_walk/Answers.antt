@@ -1,7 +1,7 @@
 use Rattle.std.proofs.Common.{◌∷◌, pos}
 use Rattle.sc_whole.specs.Spelling.{spelling}
 use Rattle.sc_line.proofs.PrintLaws.{part_after, pieces_at, on_err}
-use Rattle.sc_prices.proofs.printing.print_walk.Goals as goal
+use Rattle.sc_certificate.proofs.parts.print_walk.Goals as goal
 
 pub returns-in_err-print_place-clause-err : goal.returns-in_err-print_place-clause-err
 returns-in_err-print_place-clause-err c =

@@ -3,8 +3,8 @@ use Rattle.std.specs.List.{flat_map}
 use Rattle.sc_whole.specs.Spelling.{spelling}
 use Rattle.sc_line.specs.Printing.{AppendsPart}
 use Rattle.sc_line.proofs.PrintLaws.{on_err, front_part, then_part, then_all, stopped}
-use Rattle.sc_prices.proofs.Pieces.{pivot_pieces}
-use Rattle.sc_prices.proofs.printing.print_pivot_line.Goals as goal
+use Rattle.sc_certificate.proofs.Pieces.{pivot_pieces}
+use Rattle.sc_certificate.proofs.parts.print_pivot_line.Goals as goal
 
 pub returns-in_err-print_walk-clause-err : goal.returns-in_err-print_walk-clause-err
 returns-in_err-print_walk-clause-err c =

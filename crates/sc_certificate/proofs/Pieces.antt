@@ -18,9 +18,9 @@ use Rattle.sc_certificate.specs.PivotLines.{pivot_line}
 use Rattle.sc_certificate.specs.Certificates.{Certificate, heading, certificate_text}
 use Rattle.sc_certificate.specs.Spelled.{list_lines, pair_lines, tables_lines, journal_lines}
 use Rattle.sc_certificate.proofs.SpelledLaws.{same_lines}
-use Rattle.sc_prices.specs.declared.printing.Part.{Part}
-use Rattle.sc_prices.specs.declared.printing.TheConstants.{PARTS}
-use Rattle.sc_prices.specs.Parts.{part_text}
+use Rattle.sc_certificate.specs.declared.parts.Part.{Part}
+use Rattle.sc_certificate.specs.declared.parts.TheConstants.{PARTS}
+use Rattle.sc_certificate.specs.Parts.{part_text}
 
 -- the pieces of the line of a pivot
 pub pivot_pieces : (row : ℕ) (walk : List ℕ) → ended (pivot_line (record { row = row; polygon = walk })) ≡ codes "pivot " ++ (spelling (pos row) ++ (flat_map (λ i. 32 ∷ spelling (pos i)) walk ++ 10 ∷ []))

@@ -1,7 +1,7 @@
-use Rattle.sc_prices.specs.Conditions.{certificate_of}
+use Rattle.sc_certificate.specs.CertificateRead.{certificate_of}
 use Rattle.sc_line.proofs.PrintLaws.{on_err}
-use Rattle.sc_prices.proofs.Pieces.{part_more, part_stopped, parts_done}
-use Rattle.sc_prices.proofs.certificate.Certificate.print.Goals as goal
+use Rattle.sc_certificate.proofs.Pieces.{part_more, part_stopped, parts_done}
+use Rattle.sc_certificate.proofs.certificate.Certificate.print.Goals as goal
 
 pub returns-in_err-print_part-clause-err : goal.returns-in_err-print_part-clause-err
 returns-in_err-print_part-clause-err c =

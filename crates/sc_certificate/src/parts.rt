@@ -11,7 +11,8 @@ ghost use Rattle.sc_certificate.specs.Spelled.{tables_lines};
 ghost use Rattle.sc_certificate.specs.Certificates.{certificate_text, IsCertificateInRange};
 
 use crate::certificate::Certificate;
-use sc_certificate::{Tables, print_base_lines, print_pair_lines};
+use crate::printing::{print_base_lines, print_pair_lines};
+use crate::tables::Tables;
 use sc_chain::{Pairs, Pivot};
 use sc_text::{
     print_count_line, print_from_line, print_line, print_scale_line, print_sides, print_value_line,
@@ -105,8 +106,8 @@ fn print_pivot_lines(journal: &[Pivot], out: &mut Vec<u8>) -> Result<(), AllocEr
 }
 
 impl Certificate {
-    ghost use Rattle.sc_prices.specs.Conditions.{certificate_of};
-    ghost use Rattle.sc_prices.specs.Parts.{part_text};
+    ghost use Rattle.sc_certificate.specs.CertificateRead.{certificate_of};
+    ghost use Rattle.sc_certificate.specs.Parts.{part_text};
 
     fn print_part(&self, part: Part, out: &mut Vec<u8>) -> Result<(), AllocError>
         requires { IsCertificateInRange (certificate_of self.now) }

@@ -2,7 +2,7 @@ use Rattle.std.proofs.Common.{◌∙◌, ℕ, List, ap}
 use Rattle.sc_certificate.specs.PivotLines.{pivot_line}
 use Rattle.sc_line.proofs.PrintLaws.{on_err}
 use Rattle.sc_certificate.proofs.PrintedLines.{lines_part}
-use Rattle.sc_prices.proofs.printing.print_pivot_lines.Goals as goal
+use Rattle.sc_certificate.proofs.parts.print_pivot_lines.Goals as goal
 
 pub returns-in_err-print_pivot_line-clause-err : goal.returns-in_err-print_pivot_line-clause-err
 returns-in_err-print_pivot_line-clause-err c =

@@ -4,8 +4,8 @@ use Rattle.std.proofs.lemmas.List.FromFn.{length-enumerate_from}
 use Rattle.sc_text.specs.TableLines.{from_line}
 use Rattle.sc_line.proofs.PrintLaws.{on_err}
 use Rattle.sc_certificate.proofs.PrintedLines.{lines_more, lines_part, lines_done}
-use Rattle.sc_prices.proofs.Pieces.{table_line}
-use Rattle.sc_prices.proofs.printing.print_tables.Goals as goal
+use Rattle.sc_certificate.proofs.Pieces.{table_line}
+use Rattle.sc_certificate.proofs.parts.print_tables.Goals as goal
 
 pub returns-in_err-print_from_line-clause-err : goal.returns-in_err-print_from_line-clause-err
 returns-in_err-print_from_line-clause-err c =

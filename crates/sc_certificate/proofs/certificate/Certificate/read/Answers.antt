@@ -1,5 +1,5 @@
 use Rattle.sc_certificate.proofs.TextLaws.{is_faultless, is_malformed, only_first, is_same, is_memory}
-use Rattle.sc_certificate.proofs.reader.read_certificate_text.Goals as goal
+use Rattle.sc_certificate.proofs.certificate.Certificate.read.Goals as goal
 
 pub returns : goal.returns
 returns c =
