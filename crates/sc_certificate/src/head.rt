@@ -7,11 +7,11 @@ ghost use Rattle.sc_text.specs.Surfaces.{IsChainInRange};
 ghost use Rattle.sc_line.specs.Forms.{Tells};
 ghost use Rattle.sc_text.specs.ValueLines.{a_value, quotient_of};
 
-use sc_chain::{Chain, ChainFault, Pairs, Word};
+use sc_chain::{Chain, Pairs, Word};
 use sc_fraction::Frac;
 use sc_line::LineFault;
-use sc_text::value_line;
-use std::alloc::{AllocError, Global};
+use sc_text::{chain_of, value_line};
+use std::alloc::Global;
 use std::marker::Model;
 
 /// A chain, its pairs, and a value.
@@ -32,32 +32,6 @@ impl Model for Head {
     ghost view = { chain_and_value };
 
     ghost invariant = { HasItsPairs };
-}
-
-// The same words with their weights once more.
-fn copy_words(alloc: Global, words: &[(u32, Word)]) -> Result<Vec<(u32, Word)>, AllocError>
-    ensures { IfOk result (λ copies. copies.items ≡ words.now) }
-{
-    let mut copies = Vec::with_capacity(alloc, words.len())?;
-    for entry in words {
-        copies.push((entry.0, entry.1.copy(alloc)?))?;
-    }
-    Ok(copies)
-}
-
-// The chain of words that a text may hold.
-fn chain_of(alloc: Global, words: &[(u32, Word)]) -> Result<Chain, AllocError>
-    requires { IsChainInRange words.now }
-    ensures { IfOk result (λ chain. chain ≡ words.now) }
-{
-    match Chain::of_reduced(alloc, copy_words(alloc, words)?) {
-        Ok(chain) => Ok(chain),
-        // a match of its own, in whose last arm the fault is known not to be want of memory
-        Err(fault) => match fault {
-            ChainFault::Memory => Err(AllocError),
-            _ => unreachable!(),
-        },
-    }
 }
 
 impl Head {

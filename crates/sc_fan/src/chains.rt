@@ -1,21 +1,19 @@
 //! The chains of a fan text.
 
-ghost use Rattle.std.specs.Prelude.{◌≡◌, ◌≤◌, ◌-◌, true, IfErr, IfOk};
+ghost use Rattle.std.specs.Prelude.{◌≡◌, ◌≤◌, ◌-◌, true};
 ghost use Rattle.sc_theory.specs.Chains.{positions};
 ghost use Rattle.sc_chain.specs.declared.limits.TheConstants.{MAX_POSITIONS, MAX_WORDS};
-ghost use Rattle.sc_line.specs.declared.fault.TextFault.TheVariants as text_faults;
 ghost use Rattle.sc_line.specs.Lines.{lacks};
 ghost use Rattle.sc_text.specs.declared.limits.TheConstants.{VERSION_1 as version_1};
 ghost use Rattle.sc_text.specs.Words.{a_word};
-ghost use Rattle.sc_text.specs.Surfaces.{IsChainInRange};
 ghost use Rattle.sc_fan.specs.Fans.{chain_due};
 ghost use Rattle.sc_fan.specs.Reading.{taken, Gives};
 
 use crate::lines::Lines;
-use sc_chain::{Chain, ChainFault, Word};
+use sc_chain::{Chain, Word};
 use sc_line::{LineFault, LineItem, NumberedItem, TextFault};
-use sc_text::WordLines;
 use sc_text::limits::VERSION_1;
+use sc_text::{WordLines, chain_of_words};
 use std::alloc::Global;
 
 // The lines of so many words, which may have so many letters together.
@@ -53,22 +51,6 @@ impl NumberedItem for Words {
     }
 }
 
-// The chain of words that a text may hold.
-fn chain_of(alloc: Global, words: Vec<(u32, Word)>) -> Result<Chain, TextFault>
-    requires { IsChainInRange words.items }
-    ensures ok { IfOk result (λ chain. chain ≡ words.items) }
-    ensures err { IfErr result (λ e. e ≡ text_faults.Memory) }
-{
-    match Chain::of_reduced(alloc, words) {
-        Ok(chain) => Ok(chain),
-        Err(fault) => match fault {
-            ChainFault::Memory => Err(TextFault::Memory),
-            // Words in their ranges, within the limits, are accepted.
-            _ => unreachable!(),
-        },
-    }
-}
-
 /// The chain under a name, of at most so many words and letters.
 pub(crate) fn read_chain(
     alloc: Global,
@@ -89,6 +71,6 @@ pub(crate) fn read_chain(
         letters,
     };
     let words = lines.items(alloc, &kind, &())?;
-    let chain = chain_of(alloc, words)?;
+    let chain = chain_of_words(alloc, words)?;
     Ok(chain)
 }

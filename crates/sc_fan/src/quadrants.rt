@@ -8,9 +8,10 @@ ghost use Rattle.sc_cone.specs.Fans.{quadrant_from};
 ghost use Rattle.sc_fan.specs.inside.Printing.{pairs_in};
 
 use crate::corner::Corner;
-use sc_chain::{Chain, ChainFault, Pairs, Word};
+use sc_chain::{Chain, Pairs, Word};
 use sc_cone::Quadrant;
 use sc_reduce::inverse_of;
+use sc_text::chain_of_words;
 use std::alloc::{AllocError, Global};
 
 // Appends words as they are.
@@ -81,14 +82,9 @@ pub(crate) fn quadrant_pairs(
     requires { IsChainInRange (quadrant_chain quadrant first.now second.now) }
     ensures { IfOk result (λ pairs. pairs ≡ pairs_of (quadrant_chain quadrant first.now second.now)) }
 {
-    match Chain::of_reduced(alloc, words_of(alloc, quadrant, first, second)?) {
-        Ok(chain) => Pairs::of(alloc, &chain),
-        Err(fault) => match fault {
-            ChainFault::Memory => Err(AllocError),
-            // The quadrant's chain is within the limits, as the contract demands.
-            _ => unreachable!(),
-        },
-    }
+    let words = words_of(alloc, quadrant, first, second)?;
+    let chain = chain_of_words(alloc, words)?;
+    Pairs::of(alloc, &chain)
 }
 
 // The quadrant of the edge that goes from a corner.

@@ -2,6 +2,7 @@
 //! limits that a text takes. The surface text stands here whole.
 #![tactic(auto)]
 
+mod chains;
 mod kinds;
 mod laws;
 pub mod limits;
@@ -13,6 +14,7 @@ mod tables;
 mod values;
 mod words;
 
+pub use chains::{chain_of, chain_of_words};
 pub use kinds::kinds_of_lines;
 pub use laws::{
     faultless_is_surface_text, surface_text_is_faultless, surface_text_is_of_one_surface,

@@ -16,8 +16,8 @@ returns-in_err-words c =
     let p = err_from_is_err_and c.from_residual-in_err-words.result c.from_residual-in_err-words.ensures.1 in
     rw (p.1, p.2) (words_fail c.args.name.now c.args.words c.args.letters c.args.lines.now c.in_ok-count.count c.count.new.self c.in_ok-count.ensures c.in_err-words.field-0.0 c.in_err-words.ensures)
 
-pub chain_of-requires : goal.chain_of-requires
-chain_of-requires c =
+pub chain_of_words-requires : goal.chain_of_words-requires
+chain_of_words-requires c =
     let told = chain_taken c.args.name.now c.args.words c.args.letters c.args.lines.now c.in_ok-count.count c.count.new.self c.in_ok-count.ensures c.in_ok-words.words.items c.items.new.self c.in_ok-words.ensures in
     small_chain c.args.words c.args.letters c.in_ok-words.words.items c.requires.few_words c.requires.few_letters
     (chain_for c.args.name.now c.args.words c.args.letters c.args.lines.now c.in_ok-words.words.items c.items.new.self c.requires.named c.requires.unended told)
@@ -25,4 +25,4 @@ chain_of-requires c =
 pub returns : goal.returns
 returns c =
     let told = chain_taken c.args.name.now c.args.words c.args.letters c.args.lines.now c.in_ok-count.count c.count.new.self c.in_ok-count.ensures c.in_ok-words.words.items c.items.new.self c.in_ok-words.ensures in
-    subst (λ (x : Chain). taken (chain_due c.args.name.now c.args.words c.args.letters) c.args.lines.now ≡ Ok (x, c.items.new.self)) (sym c.in_ok-chain.ensures.ok) told
+    subst (λ (x : Chain). taken (chain_due c.args.name.now c.args.words c.args.letters) c.args.lines.now ≡ Ok (x, c.items.new.self)) (sym c.in_ok-chain.ensures) told
