@@ -1,11 +1,11 @@
 -- A fatgraph is a surface that a text may hold.
-use Rattle.std.proofs.Common.{◌≡◌, ℕ, suc, ◌+◌, ◌<◌, List, [], ◌∷◌, length, get_or, All, subst, arith}
+use Rattle.std.proofs.Common.{ℕ, suc, ◌+◌, ◌<◌, List, [], ◌∷◌, length, get_or, All, subst, arith}
 use Rattle.std.specs.List.{AllByRecursion}
 use Rattle.std.proofs.lemmas.List.{get_or_default}
 use Rattle.sc_theory.specs.declared.Letter.{Letter}
 use Rattle.sc_theory.specs.Words.{Word}
 use Rattle.sc_theory.specs.Chains.{Chain, no_word, no_letter, word, first}
-use Rattle.sc_theory.specs.Fatgraphs.{Sides, no_side}
+use Rattle.sc_theory.specs.Fatgraphs.{no_side}
 use Rattle.sc_theory.proofs.ChainLaws.{place_inside, letter_place}
 use Rattle.sc_chain.specs.Faults.{IsSmallChain}
 use Rattle.sc_words.specs.declared.limits.TheConstants.{GENERATORS}
