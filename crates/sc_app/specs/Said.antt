@@ -14,7 +14,7 @@ use Rattle.sc_app.specs.Answer.{status_of, text_of}
 use Rattle.sc_app.specs.declared.said.Heading.{Heading}
 use Rattle.sc_app.specs.declared.said.Heading.TheVariants.{CertificateText, SurfaceText}
 use Rattle.sc_app.specs.declared.said.Said.{Said}
-use Rattle.sc_app.specs.declared.said.Said.TheVariants.{Surface, Refused}
+use Rattle.sc_app.specs.declared.said.Said.TheVariants.{Fatgraph, Refused}
 use Rattle.sc_app.specs.declared.status.Status.{Status}
 use Rattle.sc_app.specs.declared.status.Status.TheVariants.{Done, Malformed, Rejected}
 
@@ -83,5 +83,5 @@ IsStatusOfSides _ = ⊥
 
 -- what was found in an input: the labelled fatgraph that it says, or why it says none
 abbrev pub IsSaid : List ℕ → Said → Type 0
-IsSaid input (Surface f) = Says input f.chain f.copies f.sides × IsFatgraph f.chain f.copies f.sides
+IsSaid input (Fatgraph f) = Says input f.chain f.copies f.sides × IsFatgraph f.chain f.copies f.sides
 IsSaid input (Refused answer) = Refuses input (status_of answer) (text_of answer)

@@ -25,7 +25,7 @@ pub enum Heading {
 #[derive(Drop)]
 pub enum Said {
     /// The labelled fatgraph that it says.
-    Surface(Fatgraph),
+    Fatgraph(Fatgraph),
     /// Why it says none: a malformed line, or the first flaw.
     Refused(Answer),
 }
@@ -50,7 +50,7 @@ pub fn heading_of(input: &[u8]) -> Heading
 
 /// The surface that the input says, which may be no fatgraph.
 fn read_said(alloc: Global, input: &[u8]) -> Result<SurfaceText, TextFault>
-    ensures says { IfOk result (λ said. Says input.now said.chain said.n said.sides) }
+    ensures says { IfOk result (λ said. Says input.now said.chain said.n said.sides.items) }
     ensures malformed { IfErr result (IsFaultOf (plan_for input.now) input.now) }
 {
     match heading_of(input) {
@@ -65,7 +65,7 @@ fn read_said(alloc: Global, input: &[u8]) -> Result<SurfaceText, TextFault>
             Ok(SurfaceText {
                 chain,
                 n,
-                sides: Sides::from_vec(sides),
+                sides,
             })
         }
     }
@@ -79,8 +79,8 @@ pub fn read_fatgraph(alloc: Global, input: &[u8]) -> Result<Said, AllocError>
         Ok(text) => text,
         Err(fault) => return Ok(Said::Refused(Answer::to_fault(fault)?)),
     };
-    match Fatgraph::check(alloc, chain, n, sides) {
-        Ok(fatgraph) => Ok(Said::Surface(fatgraph)),
+    match Fatgraph::check(alloc, chain, n, Sides::from_vec(sides)) {
+        Ok(fatgraph) => Ok(Said::Fatgraph(fatgraph)),
         Err(SurfaceFault::Flaw { kind, place }) => Ok(Said::Refused(rejected(
             alloc,
             Condition::Flaw { kind, place },

@@ -117,7 +117,7 @@ pub fn answer_shape(alloc: Global, input: &[u8]) -> Result<Answer, AllocError>
     ensures { IfOk result (λ answer. ShapeResponds input.now (status_of answer) (text_of answer)) }
 {
     match read_fatgraph(alloc, input)? {
-        Said::Surface(fatgraph) => Ok(Answer::Text(describe(alloc, &fatgraph)?)),
+        Said::Fatgraph(fatgraph) => Ok(Answer::Text(describe(alloc, &fatgraph)?)),
         Said::Refused(answer) => Ok(answer),
     }
 }

@@ -42,7 +42,7 @@ pub fn answer_surface(alloc: Global, input: &[u8]) -> Result<Answer, AllocError>
     ensures { IfOk result (λ answer. SurfaceResponds input.now (status_of answer) (text_of answer)) }
 {
     match read_fatgraph(alloc, input)? {
-        Said::Surface(fatgraph) => Ok(Answer::Text(report_text(alloc, &fatgraph)?)),
+        Said::Fatgraph(fatgraph) => Ok(Answer::Text(report_text(alloc, &fatgraph)?)),
         Said::Refused(answer) => Ok(answer),
     }
 }

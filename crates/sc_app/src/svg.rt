@@ -64,7 +64,7 @@ fn answer_surface(alloc: Global, input: &[u8]) -> Result<Answer, AllocError>
     ensures { IfOk result (λ answer. RespondsBySides IsPicture input.now (status_of answer) (text_of answer)) }
 {
     match read_fatgraph(alloc, input)? {
-        Said::Surface(fatgraph) => Ok(Answer::Text(draw(alloc, &fatgraph)?)),
+        Said::Fatgraph(fatgraph) => Ok(Answer::Text(draw(alloc, &fatgraph)?)),
         Said::Refused(answer) => Ok(answer),
     }
 }

@@ -3,8 +3,8 @@
 ghost use Rattle.std.specs.Prelude.{◌≤◌, ◌*◌, ◌-ℤ◌, pos};
 ghost use Rattle.sc_fraction.specs.Frac.{IsQuotient};
 
+use crate::fatgraph::Counts;
 use crate::limits::MAX_COPIES;
-use crate::surface::Counts;
 use sc_fraction::Frac;
 
 /// Edges minus vertices, over twice the number of copies.

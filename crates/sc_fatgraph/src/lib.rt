@@ -3,22 +3,23 @@
 #![tactic(auto)]
 
 mod cost;
+mod fatgraph;
 mod flaws;
 pub mod laws;
 pub mod limits;
 mod orbits;
 mod seed;
 mod side_list;
-mod surface;
 mod text;
 
 pub use cost::fraction;
+pub use fatgraph::{Counts, Fatgraph};
 pub use flaws::{FlawKind, SurfaceFault};
+pub use sc_text::{SurfaceText, read_surface};
 pub use sc_theory::Side;
 pub use seed::seed_surface;
 pub use side_list::Sides;
-pub use surface::{Counts, Fatgraph};
-pub use text::{SurfaceText, print_surface, read_surface};
+pub use text::print_surface;
 
 #[cfg(test)]
 mod tests;

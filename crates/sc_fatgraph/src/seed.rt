@@ -5,9 +5,9 @@ ghost use Rattle.sc_theory.specs.Chains.{IsBalanced};
 ghost use Rattle.sc_theory.specs.Fatgraphs.{IsFatgraph};
 ghost use Rattle.sc_gluing.specs.Seeds.{IsSeed};
 
+use crate::fatgraph::Fatgraph;
 use crate::flaws::SurfaceFault;
 use crate::side_list::Sides;
-use crate::surface::Fatgraph;
 use sc_chain::Chain;
 use sc_gluing::seed_sides;
 use std::alloc::{AllocError, Global};

@@ -358,7 +358,10 @@ fn what_was_read_is_printed_again(rt: HostRuntime) -> Result<(), AllocError> {
     let alloc = rt.alloc();
     for text in [TEXT_A, TEXT_B] {
         let SurfaceText { chain, n, sides } = read_surface(alloc, text).expect(&rt, "a text");
-        let fatgraph = Fatgraph::check(alloc, chain, n, sides).expect(&rt, "a fatgraph");
+        let fatgraph = Fatgraph::check(alloc, chain, n, Sides::from_vec(sides)).expect(
+            &rt,
+            "a fatgraph",
+        );
         let mut out = Vec::new(alloc);
         print_surface(&fatgraph, &mut out)?;
         assert_eq!(rt; out.as_slice(), text);

@@ -10,7 +10,10 @@ use std::process::Abort;
 /// The components of a surface text.
 fn shape_of(rt: &impl Abort, alloc: Global, text: &[u8]) -> Result<Vec<Component>, AllocError> {
     let SurfaceText { chain, n, sides } = read_surface(alloc, text).expect(rt, "a text");
-    let fatgraph = Fatgraph::check(alloc, chain, n, sides).expect(rt, "a fatgraph");
+    let fatgraph = Fatgraph::check(alloc, chain, n, Sides::from_vec(sides)).expect(
+        rt,
+        "a fatgraph",
+    );
     components(alloc, &fatgraph)
 }
 

@@ -8,7 +8,10 @@ use std::process::Abort;
 /// The drawing of a surface text.
 fn drawing_of(rt: &impl Abort, alloc: Global, text: &[u8]) -> Result<Vec<u8>, AllocError> {
     let SurfaceText { chain, n, sides } = read_surface(alloc, text).expect(rt, "a text");
-    let fatgraph = Fatgraph::check(alloc, chain, n, sides).expect(rt, "a fatgraph");
+    let fatgraph = Fatgraph::check(alloc, chain, n, Sides::from_vec(sides)).expect(
+        rt,
+        "a fatgraph",
+    );
     draw(alloc, &fatgraph)
 }
 

@@ -1,8 +1,8 @@
 -- The form of surface texts is lawful: which surfaces they tell.
 use Rattle.std.proofs.Common.{◌≡◌, ℕ, true, suc, ◌+◌, ◌-◌, ◌≤◌, List, [], ◌∷◌, ◌++◌, length, None, codes, pos, refl, ap, arith, Result, ◌⊎◌}
 use Rattle.std.specs.List.{AllByRecursion}
-use Rattle.std.specs.Prelude.{IfOk, IfErr, OnOk, IsErrAnd}
-use Rattle.std.proofs.lemmas.Result.{IfOk-weaker}
+use Rattle.std.specs.Prelude.{IfOk, IfErr, OnOk, IsErrAnd, MatchResult}
+use Rattle.std.proofs.lemmas.Result.{IfOk-weaker, MatchResult-from_both}
 use Rattle.std.proofs.lemmas.List.Sums.{sum_by-append}
 use Rattle.sc_theory.specs.Words.{Word}
 use Rattle.sc_theory.specs.Chains.{Chain, positions}
@@ -27,9 +27,8 @@ use Rattle.sc_text.specs.Sides.{side_line, IsSideWithin, a_side}
 use Rattle.sc_text.specs.Parts.{words_form, copies_form, sides_form}
 use Rattle.sc_text.specs.Printing.{words_lines, sides_lines}
 use Rattle.sc_text.specs.Surfaces.{heading, ending, from_sides, from_copies, from_words, Said, surface_form, uncounted, surface_due, said, surface_lines, surface_text, surface_plan, IsChainFor, IsChainWithin, IsSurfaceWithin, IsSurfaceInRange}
-use Rattle.sc_text.specs.inside.SurfaceRead.{said_by, IsSurfaceRead}
-use Rattle.sc_text.specs.SurfaceRead.{IsSaid}
-use Rattle.sc_text.specs.declared.surface.Surface.{Surface}
+use Rattle.sc_text.specs.inside.SurfaceRead.{IsSaid, said_by, IsSurfaceRead}
+use Rattle.sc_text.specs.declared.surface.SurfaceText.{SurfaceText}
 use Rattle.sc_line.specs.declared.fault.TextFault.{TextFault}
 use Rattle.sc_text.proofs.KindLaws.{word_kind, side_kind}
 use Rattle.sc_text.proofs.FeedLaws.{lacks-numbers_line, lacks-word_line, lacks-side_line}
@@ -189,11 +188,15 @@ same_lines c n g =
 
 -- ---- a surface that was read
 
+-- what the lines told is in its ranges
+pub told_in_range : (bytes : List ℕ) (v : Said) → IsToldBy (surface_due VERSION_1) bytes v → IsSaid v
+told_in_range bytes v told = lawful_version_1.in_range told.lines v told.reads
+
 -- a surface that the lines told, or a fault of the text, is what a reader of surface texts answers
-pub surface_read : (bytes : List ℕ) (r : Result Surface TextFault) → IfOk r (λ s. IsToldBy (surface_due VERSION_1) bytes (said_by s)) → IfErr r (IsFaultOf (plan_of (surface_due VERSION_1)) bytes) → IsSurfaceRead bytes r
+pub surface_read : (bytes : List ℕ) (r : Result SurfaceText TextFault) → IfOk r (λ s. IsToldBy (surface_due VERSION_1) bytes (said_by s)) → IfErr r (IsFaultOf (plan_of (surface_due VERSION_1)) bytes) → IsSurfaceRead bytes r
 surface_read bytes r = texts.text_of_read (surface_form VERSION_1).lines (surface_due VERSION_1) IsSaid all_lines lawful_version_1 bytes said_by r
 
-module _ (bytes : List ℕ) (r : Result Surface TextFault) (read : IsSurfaceRead bytes r) where
+module _ (bytes : List ℕ) (r : Result SurfaceText TextFault) (read : IsSurfaceRead bytes r) where
   -- a text that was read has no fault
   pub is_faultless : OnOk r (IsFaultless surface_plan bytes)
   unfolding surface_plan
@@ -209,12 +212,10 @@ module _ (bytes : List ℕ) (r : Result Surface TextFault) (read : IsSurfaceRead
   unfolding surface_plan
   only_first line kind first = texts.only (surface_form VERSION_1).lines (surface_due VERSION_1) IsSaid all_lines lawful_version_1 bytes said_by r read line kind first
 
-  -- what is read of the text of a surface in range is that surface
-  pub is_same : (c : Chain) (n : ℕ) (g : Sides) → IsSurfaceInRange c n g → bytes ≡ surface_text c n g → IfOk r (λ s. (s.words.items ≡ c) × (s.copies ≡ n) × (s.sides.items ≡ g))
+  -- the text of a surface in range is read as that surface, unless memory runs out
+  pub is_same : (c : Chain) (n : ℕ) (g : Sides) → IsSurfaceInRange c n g → bytes ≡ surface_text c n g → MatchResult r (λ s. (s.chain ≡ c) × (s.n ≡ n) × (s.sides.items ≡ g)) (λ e. e ≡ text_faults.Memory)
   is_same c n g h e =
-      IfOk-weaker r _ _ (λ s same. let is = same_said (said_by s) (said c n g) same in (is.words, is.copies, is.sides))
-      (texts.reads_again (surface_form VERSION_1).lines (surface_due VERSION_1) IsSaid all_lines lawful_version_1 bytes said_by r read (said c n g) h e)
-
-  -- the text of a surface in range is refused for want of memory alone
-  pub is_memory : (c : Chain) (n : ℕ) (g : Sides) → IsSurfaceInRange c n g → bytes ≡ surface_text c n g → IfErr r (λ e. e ≡ text_faults.Memory)
-  is_memory c n g h e = texts.memory (surface_form VERSION_1).lines (surface_due VERSION_1) IsSaid all_lines lawful_version_1 bytes said_by r read (said c n g) h e
+      MatchResult-from_both r _ _
+      (IfOk-weaker r _ _ (λ s same. let is = same_said (said_by s) (said c n g) same in (is.words, is.copies, is.sides))
+      (texts.reads_again (surface_form VERSION_1).lines (surface_due VERSION_1) IsSaid all_lines lawful_version_1 bytes said_by r read (said c n g) h e))
+      (texts.memory (surface_form VERSION_1).lines (surface_due VERSION_1) IsSaid all_lines lawful_version_1 bytes said_by r read (said c n g) h e)

@@ -11,5 +11,4 @@ pub mod ValueLines
 pub mod TableLines
 pub mod Parts
 pub mod Surfaces
-pub mod SurfaceRead
 pub mod inside

@@ -30,7 +30,7 @@ pub use sc_line::{
     Fields, LineFault, count_line, cut, in_range, literal_line, number_line, number_of, within,
 };
 pub use sides::{SideLines, side_line};
-pub use surface::{Surface, read_surface_text};
+pub use surface::{SurfaceText, read_surface};
 pub use tables::{from_line, print_from_line};
 pub use values::{fraction_of, print_value_line, value_line};
 pub use words::{WordLines, word_line};

@@ -1,7 +1,7 @@
 //! Texts and lines that the formats give, and what is wrong with others.
 
 use sc_chain::{Kind, TextFault};
-use sc_text::read_surface_text;
+use sc_text::read_surface;
 use std::test::Fail;
 
 const TEXT_A: &[u8] =
@@ -9,16 +9,16 @@ const TEXT_A: &[u8] =
 
 #[test]
 fn text_a_is_read(rt: HostRuntime) -> Result<(), Fail> {
-    let surface = read_surface_text(rt.alloc(), TEXT_A)?;
-    assert_eq!(rt; surface.words.len(), 1);
-    assert_eq!(rt; surface.copies, 1);
+    let surface = read_surface(rt.alloc(), TEXT_A)?;
+    assert_eq!(rt; surface.chain.words(), 1);
+    assert_eq!(rt; surface.n, 1);
     assert_eq!(rt; surface.sides.len(), 4);
     Ok(())
 }
 
 /// The line and the kind of the fault of a text.
 fn fault_of(rt: &HostRuntime, text: &[u8]) -> Option<(u32, Kind)> {
-    match read_surface_text(rt.alloc(), text) {
+    match read_surface(rt.alloc(), text) {
         Err(TextFault::Malformed { line, kind }) => Some((line, kind)),
         _ => None,
     }

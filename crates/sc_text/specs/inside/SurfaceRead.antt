@@ -5,14 +5,17 @@ use Rattle.sc_line.specs.Lines.{text_of}
 use Rattle.sc_line.specs.Formats.{plan_of}
 use Rattle.sc_line.specs.Forms.{IsRead}
 use Rattle.sc_text.specs.declared.limits.TheConstants.{VERSION_1}
-use Rattle.sc_text.specs.declared.surface.Surface.{Surface}
-use Rattle.sc_text.specs.Surfaces.{Said, surface_form, surface_due, said}
-use Rattle.sc_text.specs.SurfaceRead.{IsSaid}
+use Rattle.sc_text.specs.declared.surface.SurfaceText.{SurfaceText}
+use Rattle.sc_text.specs.Surfaces.{Said, surface_form, surface_due, said, IsSurfaceInRange}
 
--- what a surface says
-abbrev pub said_by : Surface → Said
-said_by s = said s.words.items s.copies s.sides.items
+-- what is told is in its ranges
+abbrev pub IsSaid : Said → Type 0
+IsSaid v = IsSurfaceInRange v.second.first v.second.second.first v.second.second.second.first
+
+-- what a surface text said
+abbrev pub said_by : SurfaceText → Said
+said_by s = said s.chain s.n s.sides.items
 
 -- what a reader of surface texts answers
-abbrev pub IsSurfaceRead : List ℕ → Result Surface TextFault → Type 0
+abbrev pub IsSurfaceRead : List ℕ → Result SurfaceText TextFault → Type 0
 IsSurfaceRead bytes result = IsRead (λ v. text_of ((surface_form VERSION_1).lines v)) IsSaid (plan_of (surface_due VERSION_1)) bytes said_by result
