@@ -62,11 +62,7 @@ fn read_said(alloc: Global, input: &[u8]) -> Result<SurfaceText, TextFault>
                 sides,
                 ..
             } = Certificate::read(alloc, input)?;
-            Ok(SurfaceText {
-                chain,
-                n,
-                sides,
-            })
+            Ok(SurfaceText { chain, n, sides })
         }
     }
 }

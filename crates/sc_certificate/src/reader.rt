@@ -93,6 +93,8 @@ impl LinePart for CertificateLines {
                     return self.front.take_line(alloc, line);
                 }
                 self.head = Some(Head::read(alloc, line, self.front.words())?);
+                // The words stand in the chain from here on.
+                self.front = Front::new(alloc);
                 Ok(())
             }
         }

@@ -47,4 +47,4 @@ pub returns-in_ok-read-in-None-clause-ok : goal.returns-in_ok-read-in-None-claus
 returns-in_ok-read-in-None-clause-ok c =
     let r = c.args.self.now in
     let h = c.in_ok-read-in-None in
-    value_steps r.head c.in-None.is _ (front_at r.front) (front_at r.front) c.words.result.now c.args.line.now h.field-0 c.words.ensures.told h.ensures.chain h.ensures.ok
+    value_steps r.head c.in-None.is _ (front_at r.front) (front_at c.new.result) c.words.result.now c.args.line.now h.field-0 c.words.ensures.told h.ensures.chain h.ensures.ok
