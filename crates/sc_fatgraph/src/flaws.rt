@@ -137,28 +137,28 @@ fn first_label_flaw(chain: &Chain, sides: &[Side]) -> Option<u32>
     None
 }
 
-/// Counts into the table, which has a 0 for each position, how many sides have it as their label.
-fn count_labels(chain: &Chain, sides: &[Side], table: &mut [u32])
+/// Counts into the tally, which has a 0 for each position, how many sides have it as their label.
+fn count_labels(chain: &Chain, sides: &[Side], tally: &mut [u32])
     requires few { length sides.now < 2 ^ 32 }
     requires in_range { AreInRange chain.now sides.now }
-    requires as_many { length table.old ≡ positions chain.now }
-    requires empty { (i : ℕ) → get_or table.old i 0 ≡ 0 }
-    ensures { AreLabelCounts chain.now sides.now table.new }
+    requires as_many { length tally.old ≡ positions chain.now }
+    requires empty { (i : ℕ) → get_or tally.old i 0 ≡ 0 }
+    ensures { AreLabelCounts chain.now sides.now tally.new }
 {
     for s in 0..sides.len() {
         let label = sides[s].label as usize;
-        table[label] += 1;
+        tally[label] += 1;
     }
 }
 
 /// The least word whose first position labels another number of sides than the copies run along it.
-fn first_count_flaw(chain: &Chain, n: u32, sides: &[Side], table: &[u32]) -> Option<u32>
-    requires as_many { length table.now ≡ positions chain.now }
-    requires counts { AreLabelCounts chain.now sides.now table.now }
+fn first_count_flaw(chain: &Chain, n: u32, sides: &[Side], tally: &[u32]) -> Option<u32>
+    requires as_many { length tally.now ≡ positions chain.now }
+    requires counts { AreLabelCounts chain.now sides.now tally.now }
     ensures { IsLeastPlace (HasCountFlaw chain.now n sides.now) result }
 {
     for w in 0..chain.words() {
-        let count = table[chain.first_of(w)];
+        let count = tally[chain.first_of(w)];
         if u64::from(count) != u64::from(n) * u64::from(chain.weight(w)) {
             return Some(w as u32);
         }
@@ -195,9 +195,9 @@ pub(crate) fn first_flaw(
     if let Some(place) = first_label_flaw(chain, sides) {
         return Ok(Some((FlawKind::Label, place)));
     }
-    let mut table = vec![in alloc; 0; chain.positions()]?;
-    count_labels(chain, sides, table.as_mut_slice());
-    if let Some(word) = first_count_flaw(chain, n, sides, table.as_slice()) {
+    let mut tally = vec![in alloc; 0; chain.positions()]?;
+    count_labels(chain, sides, tally.as_mut_slice());
+    if let Some(word) = first_count_flaw(chain, n, sides, tally.as_slice()) {
         return Ok(Some((FlawKind::Count, word)));
     }
     Ok(None)

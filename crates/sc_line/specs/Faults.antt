@@ -65,30 +65,30 @@ due_after plan before = plan before
 
 -- the fault of a line after these lines
 abbrev pub line_fault : Plan → List Line → Line → Option Kind
-line_fault table before line = option_map_or (λ fault. fault line) (due_after table before) (Some Rest)
+line_fault plan before line = option_map_or (λ fault. fault line) (due_after plan before) (Some Rest)
 
 -- the fault at the first of the parts that come after these lines; the last part of a text isn't ended
 abbrev pub part_fault : Plan → List Line → List Line → Option Kind
-part_fault table before [] = None
-part_fault table before (line ∷ next ∷ more) = line_fault table before line
-part_fault table before (rest ∷ []) =
-    if is_some (due_after table before) then Some Ended else (if length rest == 0 then None else Some Rest)
+part_fault plan before [] = None
+part_fault plan before (line ∷ next ∷ more) = line_fault plan before line
+part_fault plan before (rest ∷ []) =
+    if is_some (due_after plan before) then Some Ended else (if length rest == 0 then None else Some Rest)
 
 -- the fault of the line number i of a text, counted from 1
 abbrev pub fault_at : Plan → List ℕ → ℕ → Option Kind
-fault_at table text zero = None
-fault_at table text (suc i) = part_fault table (take i (parts text)) (drop i (parts text))
+fault_at plan text zero = None
+fault_at plan text (suc i) = part_fault plan (take i (parts text)) (drop i (parts text))
 
 -- the first line of a text that has a fault, and its kind
-pub record IsFirstFault (table : Plan) (text : List ℕ) (line : ℕ) (kind : Kind) : Type 0 where
-  pub here : fault_at table text line ≡ Some kind
-  pub least : (i : ℕ) → i < line → fault_at table text i ≡ None
+pub record IsFirstFault (plan : Plan) (text : List ℕ) (line : ℕ) (kind : Kind) : Type 0 where
+  pub here : fault_at plan text line ≡ Some kind
+  pub least : (i : ℕ) → i < line → fault_at plan text i ≡ None
 
 -- every line of a text is as it is due
 abbrev pub IsFaultless : Plan → List ℕ → Type 0
-IsFaultless table text = (i : ℕ) → fault_at table text i ≡ None
+IsFaultless plan text = (i : ℕ) → fault_at plan text i ≡ None
 
 -- a text that isn't read has this first fault, unless memory ran out
 abbrev pub IsFaultOf : Plan → List ℕ → TextFault → Type 0
-IsFaultOf table text (Malformed line kind) = IsFirstFault table text line kind
-IsFaultOf table text Memory = Unit {0}
+IsFaultOf plan text (Malformed line kind) = IsFirstFault plan text line kind
+IsFaultOf plan text Memory = Unit {0}

@@ -1,4 +1,4 @@
--- The components, made out of tables, are those of the definition.
+-- The components, made out of lists, are those of the definition.
 use Rattle.std.proofs.Common.{◌≡◌, ℕ, ◌/◌, ◌<◌, ◌==◌, ◌&&◌, Bool, true, List, [], length, map, get_or, sym, ◌∙◌, ap, ap₂, refl, arith}
 use Rattle.sc_algebra.specs.Sums.{count_below}
 use Rattle.sc_algebra.specs.Permutations.{is_least_for}
@@ -7,8 +7,8 @@ use Rattle.sc_theory.specs.Chains.{Chain, word, word_of}
 use Rattle.sc_theory.specs.Fatgraphs.{Sides, label, turn}
 use Rattle.sc_shape.specs.Classes.{entry}
 use Rattle.sc_shape.specs.Shapes.{list_below, boundary_of, component_of, AreComponents}
-use Rattle.sc_shape.specs.inside.Tables.{AreLeasts, AreTallies, bare, boundary_with, with_boundaries}
-use Rattle.sc_shape.specs.Tables.{is_own}
+use Rattle.sc_shape.specs.inside.SideLists.{AreLeasts, AreTallies, bare, boundary_with, with_boundaries}
+use Rattle.sc_shape.specs.SideLists.{is_own}
 use Rattle.sc_shape.specs.declared.component.Boundary.{Boundary}
 use Rattle.sc_shape.specs.declared.component.Component.{Component}
 use Rattle.sc_shape.proofs.ListsBelow.{map-list_below, map_map}

@@ -1,4 +1,4 @@
--- Least numbers of classes under one permutation are the least numbers of its orbits; classes of tables are those of
+-- Least numbers of classes under one permutation are the least numbers of its orbits; classes of lists are those of
 -- the maps.
 use Rattle.std.proofs.Common.{◌≡◌, ◌≢◌, ℕ, zero, suc, ◌+◌, ◌<◌, ◌≤◌, ◌==◌, Bool, true, false, ◌⊎◌, inl, inr, List, [], ◌∷◌, length, sym, ◌∙◌, ap, refl, arith, if◌then◌else◌}
 use Rattle.std.specs.Fn.{iterate}
@@ -12,8 +12,8 @@ use Rattle.sc_theory.specs.Fatgraphs.{Sides, mate, next, turn}
 use Rattle.sc_shape.specs.Classes.{along, LeadsTo, IsLeastLeading, entry}
 use Rattle.sc_shape.specs.inside.Classes.{StaysBelow, AreLeast}
 use Rattle.sc_shape.specs.Shapes.{IsLeastOfComponent, IsLeastOfBoundary}
-use Rattle.sc_shape.specs.Tables.{AreValues, is_own}
-use Rattle.sc_shape.specs.inside.Tables.{AreSteps, AreLeasts, PointInside}
+use Rattle.sc_shape.specs.SideLists.{AreValues, is_own}
+use Rattle.sc_shape.specs.inside.SideLists.{AreSteps, AreLeasts, PointInside}
 
 -- ---- maps that agree below n
 along-congr : (f g f' g' : ℕ → ℕ) (n : ℕ) → StaysBelow n f → StaysBelow n g → ((s : ℕ) → s < n → f s ≡ f' s) → ((s : ℕ) → s < n → g s ≡ g' s) → (path : List Bool) (s : ℕ) → s < n → along f g path s ≡ along f' g' path s
@@ -91,18 +91,18 @@ boundary_from g s r h = record {
   least = λ t k b e. h.least t b (leads_by_iterate (next g) k t s e);
 }
 
--- ---- the least sides, from tables of steps
+-- ---- the least sides, from lists of steps
 stays : (f : ℕ → ℕ) (n : ℕ) (values : List ℕ) → AreValues f n values → StaysBelow n f → StaysBelow n (entry values)
 stays f n values v h s l = rw (v.each s l) (h s l)
 
--- classes that were found by tables of the steps f and g
+-- classes that were found by lists of the steps f and g
 pub classes_of_maps : (f g : ℕ → ℕ) (n : ℕ) (first second least : List ℕ) → StaysBelow n f → StaysBelow n g → AreValues f n first → AreValues g n second → AreLeast (entry first) (entry second) (length first) least → (length least ≡ n) × ((s : ℕ) → s < n → IsLeastLeading f g n s (entry least s))
 classes_of_maps f g n first second least hf hg vf vg a =
     let e : length first ≡ n = vf.as_many in
     let b : AreLeast (entry first) (entry second) n least = rw e at a in
     (b.as_many, λ s l. least-congr (entry first) (entry second) f g n (stays f n first vf hf) (stays g n second vg hg) vf.each vg.each s (entry least s) l (b.right s l))
 
--- the least numbers of classes by tables of the steps are the least sides of components, boundaries, vertices
+-- the least numbers of classes by lists of the steps are the least sides of components, boundaries, vertices
 pub leasts_from_steps : (g : Sides) (mates nexts turns components boundaries vertices : List ℕ) → IsRibbon g → AreSteps g (length g) mates nexts turns → AreLeast (entry mates) (entry nexts) (length mates) components → AreLeast (entry nexts) (entry nexts) (length nexts) boundaries → AreLeast (entry turns) (entry turns) (length turns) vertices → AreLeasts g components boundaries vertices
 leasts_from_steps g mates nexts turns components boundaries vertices r h ac ab av =
     let n : ℕ = length g in

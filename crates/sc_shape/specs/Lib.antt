@@ -1,4 +1,4 @@
 pub mod Classes
 pub mod Shapes
-pub mod Tables
+pub mod SideLists
 pub mod inside

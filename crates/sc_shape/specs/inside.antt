@@ -1,3 +1,3 @@
 -- Definitions that no clause of a public function needs.
 pub mod Classes
-pub mod Tables
+pub mod SideLists

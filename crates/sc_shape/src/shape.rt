@@ -6,8 +6,8 @@ ghost use Rattle.sc_theory.specs.Fatgraphs.{label};
 ghost use Rattle.sc_chain.specs.Faults.{IsSmallChain};
 ghost use Rattle.sc_shape.specs.Classes.{entry};
 ghost use Rattle.sc_shape.specs.Shapes.{AreComponents, list_below};
-ghost use Rattle.sc_shape.specs.inside.Tables.{AreLeasts, AreTallies, AreAtPlaces, ArePlaces, PointInside, bare, boundary_with, with_boundaries};
-ghost use Rattle.sc_shape.specs.Tables.{is_own};
+ghost use Rattle.sc_shape.specs.inside.SideLists.{AreLeasts, AreTallies, AreAtPlaces, ArePlaces, PointInside, bare, boundary_with, with_boundaries};
+ghost use Rattle.sc_shape.specs.SideLists.{is_own};
 
 use crate::component::{Boundaries, Boundary, Component};
 use crate::steps::{Leasts, leasts_of};

@@ -1,11 +1,11 @@
-//! The steps from side to side, as tables, and the least side of each class that they make.
+//! The steps from side to side, as lists, and the least side of each class that they make.
 
 ghost use Rattle.std.specs.Prelude.{◌≡◌, ℕ, ◌<◌, ◌^◌, length, IfOk};
 ghost use Rattle.sc_algebra.specs.Permutations.{is_least_for};
 ghost use Rattle.sc_theory.specs.Fatgraphs.{next, turn};
 ghost use Rattle.sc_fatgraph.specs.inside.Orbits.{IsRibbon};
-ghost use Rattle.sc_shape.specs.inside.Tables.{AreSteps, AreLeasts};
-ghost use Rattle.sc_shape.specs.Tables.{is_own};
+ghost use Rattle.sc_shape.specs.inside.SideLists.{AreSteps, AreLeasts};
+ghost use Rattle.sc_shape.specs.SideLists.{is_own};
 
 use crate::classes::least_of_classes;
 use sc_fatgraph::{Fatgraph, Side};

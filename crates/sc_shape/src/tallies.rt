@@ -2,8 +2,8 @@
 
 ghost use Rattle.std.specs.Prelude.{◌≡◌, ℕ, ◌<◌, ◌^◌, true, length, IfOk};
 ghost use Rattle.sc_shape.specs.Classes.{entry};
-ghost use Rattle.sc_shape.specs.inside.Tables.{AreTallies, PointInside};
-ghost use Rattle.sc_shape.specs.Tables.{is_own};
+ghost use Rattle.sc_shape.specs.inside.SideLists.{AreTallies, PointInside};
+ghost use Rattle.sc_shape.specs.SideLists.{is_own};
 
 use std::alloc::{AllocError, Global};
 

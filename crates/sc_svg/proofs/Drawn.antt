@@ -9,7 +9,7 @@ use Rattle.sc_theory.specs.Chains.{Chain, letter}
 use Rattle.sc_theory.specs.Fatgraphs.{Sides, label, mate, turn, vertices}
 use Rattle.sc_shape.specs.Classes.{entry}
 use Rattle.sc_shape.specs.Shapes.{list_below}
-use Rattle.sc_shape.specs.Tables.{is_own}
+use Rattle.sc_shape.specs.SideLists.{is_own}
 use Rattle.sc_shape.proofs.ListsBelow.{list_passes, list_fails}
 use Rattle.sc_shape.proofs.OrbitLeasts.{iterate_below}
 use Rattle.sc_svg.specs.Layout.{orbit_size, order_below}

@@ -7,7 +7,7 @@ ghost use Rattle.sc_theory.specs.Fatgraphs.{label, mate};
 ghost use Rattle.sc_words.specs.Spelling as spelling;
 ghost use Rattle.sc_shape.specs.Classes.{entry};
 ghost use Rattle.sc_shape.specs.Shapes.{list_below};
-ghost use Rattle.sc_shape.specs.Tables.{is_own};
+ghost use Rattle.sc_shape.specs.SideLists.{is_own};
 ghost use Rattle.sc_svg.specs.Drawings as drawings;
 
 use crate::layout::lay_out;

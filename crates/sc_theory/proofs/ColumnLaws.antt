@@ -61,7 +61,7 @@ before_test c i p from to =
       | inr other ↦ ne_eqb i (prev c p) (λ e. other (sym (ap (succ c) e ∙ (neighbours c p to).succ-prev))) ∙ sym (ne_eqb p (succ c i) other)
     ]
 
--- a value at one place of a table, 0 at the others
+-- a value at one place of a list, 0 at the others
 abbrev only : Bool → Bool → ℤ → ℤ
 only x y d = if x then (if y then d else pos 0) else pos 0
 

@@ -79,30 +79,30 @@ is_inverse_of x = inverse_at x.number x.inverse
 pub inverse_of_step : (c : Chain) (i j : ℕ) → IsStep c i j → is_inverse (letter c (succ c i)) (letter c j) ≡ true
 inverse_of_step c i j step = ap (is_inverse (letter c (succ c i))) step.inverse ∙ is_inverse_of (letter c (succ c i))
 
--- whether the entries of the row s allow to go from i to j, where that is a step
+-- whether the entries of the table s allow to go from i to j, where that is a step
 abbrev pub step_test : Chain → Prices → Tables → ℕ → ℕ → ℕ → Bool
 step_test c list tables s i j =
     implies (is_inverse (letter c (succ c i)) (letter c j)) (may_step list.scale (price c list i j) (eqb j s) (entry tables s i) (entry tables s j))
 
--- whether each row has 0 at its own position and allows all steps
+-- whether each table has 0 at its own position and allows all steps
 abbrev pub vouch_test : Chain → Prices → Tables → Bool
 vouch_test c list tables =
     all_below (λ s. is_zero (entry tables s s) && all_below (λ i. all_below (step_test c list tables s i) (positions c)) (positions c)) (positions c)
 
 module _ (c : Chain) (list : Prices) (tables : Tables) (test : vouch_test c list tables ≡ true) where
-  row : (s : ℕ) → s < positions c → (is_zero (entry tables s s) ≡ true) × (all_below (λ i. all_below (step_test c list tables s i) (positions c)) (positions c) ≡ true)
-  row s inside = and_parts _ _ (all_below_at (λ r. is_zero (entry tables r r) && all_below (λ i. all_below (step_test c list tables r i) (positions c)) (positions c)) (positions c) s test inside)
+  table : (s : ℕ) → s < positions c → (is_zero (entry tables s s) ≡ true) × (all_below (λ i. all_below (step_test c list tables s i) (positions c)) (positions c) ≡ true)
+  table s inside = and_parts _ _ (all_below_at (λ r. is_zero (entry tables r r) && all_below (λ i. all_below (step_test c list tables r i) (positions c)) (positions c)) (positions c) s test inside)
 
   step_at : (s i j : ℕ) → s < positions c → IsStep c i j → may_step list.scale (price c list i j) (eqb j s) (entry tables s i) (entry tables s j) ≡ true
   step_at s i j inside step =
-      let at_i = all_below_at (λ k. all_below (step_test c list tables s k) (positions c)) (positions c) i (row s inside).1 step.from in
+      let at_i = all_below_at (λ k. all_below (step_test c list tables s k) (positions c)) (positions c) i (table s inside).1 step.from in
       let at_j = all_below_at (step_test c list tables s i) (positions c) j at_i step.to in
       implies_at _ _ at_j (inverse_of_step c i j step)
 
   -- tables that pass the test vouch for the list
   pub vouches : Vouch c list tables
   vouches = record {
-    starts = λ s inside. is_zero_at (entry tables s s) (row s inside).0;
+    starts = λ s inside. is_zero_at (entry tables s s) (table s inside).0;
     goes = λ s i j h inside step present other.
         goes_at list.scale (price c list i j) h (entry tables s i) (entry tables s j) present
         (subst (λ (t : Bool). may_step list.scale (price c list i j) t (entry tables s i) (entry tables s j) ≡ true) (ne_eqb j s other) (step_at s i j inside step));

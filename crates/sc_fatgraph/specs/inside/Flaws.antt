@@ -16,4 +16,4 @@ pub record AreInRange (c : Chain) (g : Sides) : Type 0 where
 
 -- the numbers of sides that have the positions as their labels
 abbrev pub AreLabelCounts : Chain → Sides → List ℕ → Type 0
-AreLabelCounts c g table = (i : ℕ) → i < positions c → get_or table i 0 ≡ sides_at g i
+AreLabelCounts c g tally = (i : ℕ) → i < positions c → get_or tally i 0 ≡ sides_at g i

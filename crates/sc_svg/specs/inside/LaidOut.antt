@@ -1,11 +1,11 @@
--- The tables of a layout.
+-- The lists of a layout.
 use Rattle.std.specs.Prelude.{◌≡◌, ℕ, ◌+◌, ◌*◌, ◌<◌, ◌≢◌, ◌==◌, ◌++◌, true, List, length}
 use Rattle.std.specs.Fn.{iterate}
 use Rattle.std.specs.List.{count_by}
 use Rattle.sc_algebra.specs.Sums.{count_below}
 use Rattle.sc_algebra.specs.Permutations.{is_least_for}
 use Rattle.sc_shape.specs.Classes.{entry}
-use Rattle.sc_shape.specs.Tables.{is_own}
+use Rattle.sc_shape.specs.SideLists.{is_own}
 use Rattle.sc_svg.specs.Layout.{orbit_size, order_below, sides_along}
 use Rattle.sc_svg.specs.Drawings.{last_side}
 

@@ -1,7 +1,7 @@
 use Rattle.std.proofs.Common.{◌≡◌, ℕ, ◌<◌, suc, List, map, arith, ap, sym, ◌∙◌, add-one}
 use Rattle.std.proofs.lemmas.Bool.{eq-eqb, ne_eqb}
 use Rattle.sc_shape.specs.Classes.{entry}
-use Rattle.sc_shape.specs.inside.Tables.{with_boundaries}
+use Rattle.sc_shape.specs.inside.SideLists.{with_boundaries}
 use Rattle.sc_shape.specs.declared.component.Component.{Component}
 use Rattle.sc_shape.proofs.Placing.{puts_begin, puts_stay, puts_pushed, boundary_made}
 use Rattle.sc_shape.proofs.shape.add_boundaries.Goals as goal

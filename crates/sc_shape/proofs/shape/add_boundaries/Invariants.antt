@@ -1,5 +1,5 @@
 use Rattle.std.proofs.Common.{◌≡◌, map}
-use Rattle.sc_shape.specs.inside.Tables.{with_boundaries}
+use Rattle.sc_shape.specs.inside.SideLists.{with_boundaries}
 use Rattle.sc_shape.proofs.shape.add_boundaries.Given as goal
 
 abbrev pub invariant-loop-side : goal.invariant-loop-side

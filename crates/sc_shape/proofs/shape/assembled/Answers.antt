@@ -1,7 +1,7 @@
 use Rattle.std.proofs.Common.{◌≡◌, ℕ, ◌<◌, true, List, length, arith, sym, ◌∙◌, subst}
 use Rattle.sc_shape.specs.Classes.{entry}
-use Rattle.sc_shape.specs.inside.Tables.{AreLeasts, AreTallies, PointInside}
-use Rattle.sc_shape.specs.Tables.{is_own}
+use Rattle.sc_shape.specs.inside.SideLists.{AreLeasts, AreTallies, PointInside}
+use Rattle.sc_shape.specs.SideLists.{is_own}
 use Rattle.sc_shape.proofs.OrbitLeasts.{boundaries_inside}
 use Rattle.sc_shape.proofs.Placing.{components_inside, stand_at_places, written_back}
 use Rattle.sc_shape.proofs.Assembling as assembling

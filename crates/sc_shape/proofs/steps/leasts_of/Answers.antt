@@ -1,5 +1,5 @@
 use Rattle.std.proofs.Common.{length}
-use Rattle.sc_shape.specs.inside.Tables.{AreSteps}
+use Rattle.sc_shape.specs.inside.SideLists.{AreSteps}
 use Rattle.sc_shape.proofs.OrbitLeasts.{leasts_from_steps}
 use Rattle.sc_shape.proofs.steps.leasts_of.Goals as goal
 

@@ -1,4 +1,4 @@
-use Rattle.sc_shape.specs.inside.Tables.{AreSteps}
+use Rattle.sc_shape.specs.inside.SideLists.{AreSteps}
 use Rattle.sc_shape.proofs.steps.steps_of.Given as goal
 
 abbrev pub invariant-loop-side : goal.invariant-loop-side

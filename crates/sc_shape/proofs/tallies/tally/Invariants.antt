@@ -1,5 +1,5 @@
 use Rattle.std.proofs.Common.{true}
-use Rattle.sc_shape.specs.inside.Tables.{AreTallies}
+use Rattle.sc_shape.specs.inside.SideLists.{AreTallies}
 use Rattle.sc_shape.proofs.tallies.tally.Given as goal
 
 abbrev pub invariant-loop-class : goal.invariant-loop-class

@@ -1,5 +1,5 @@
-use Rattle.sc_shape.specs.inside.Tables.{AreTallies}
-use Rattle.sc_shape.specs.Tables.{is_own}
+use Rattle.sc_shape.specs.inside.SideLists.{AreTallies}
+use Rattle.sc_shape.specs.SideLists.{is_own}
 use Rattle.sc_shape.proofs.tallies.tally_inner.Given as goal
 
 abbrev pub invariant-loop-number : goal.invariant-loop-number

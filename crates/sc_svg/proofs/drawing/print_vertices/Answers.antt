@@ -1,7 +1,7 @@
 use Rattle.std.proofs.Common.{ℕ, ap, ◌∙◌}
 use Rattle.std.proofs.lemmas.Bool.{eq-eqb, ne_eqb}
 use Rattle.sc_shape.specs.Classes.{entry}
-use Rattle.sc_shape.specs.Tables.{is_own}
+use Rattle.sc_shape.specs.SideLists.{is_own}
 use Rattle.sc_svg.specs.Drawings.{vertex_line}
 use Rattle.sc_svg.proofs.Drawn.{lines_pass, lines_fail}
 use Rattle.sc_svg.proofs.drawing.print_vertices.Goals as goal

@@ -2,7 +2,7 @@ use Rattle.std.proofs.Common.{◌≡◌, ◌++◌}
 use Rattle.std.specs.List.{flat_map}
 use Rattle.sc_shape.specs.Classes.{entry}
 use Rattle.sc_shape.specs.Shapes.{list_below}
-use Rattle.sc_shape.specs.Tables.{is_own}
+use Rattle.sc_shape.specs.SideLists.{is_own}
 use Rattle.sc_svg.specs.Drawings.{vertex_line}
 use Rattle.sc_svg.proofs.drawing.print_vertices.Given as goal
 

@@ -32,8 +32,8 @@ free_steps : all_below (λ i. all_below (λ j. le_z (pos 0) (pos 0 +ℤ price co
 free_steps = refl
 
 zero_entry : (s i : ℕ) → s < 4 → i < 4 → entry zero_tables s i ≡ Some (pos 0)
-zero_entry s i row column =
-    is_zero_at (entry zero_tables s i) (all_below_at (λ k. is_zero (entry zero_tables s k)) 4 i (all_below_at (λ r. all_below (λ k. is_zero (entry zero_tables r k)) 4) 4 s zero_entries row) column)
+zero_entry s i start place =
+    is_zero_at (entry zero_tables s i) (all_below_at (λ k. is_zero (entry zero_tables s k)) 4 i (all_below_at (λ r. all_below (λ k. is_zero (entry zero_tables r k)) 4) 4 s zero_entries start) place)
 
 free_step : (i j : ℕ) → i < 4 → j < 4 → pos 0 ≤ℤ (pos 0 +ℤ price commutator free_prices i j)
 free_step i j from to =

@@ -1,4 +1,4 @@
--- Said by private functions alone: tables with an entry per side, out of which the components are made.
+-- Said by private functions alone: lists with an entry per side, out of which the components are made.
 use Rattle.std.specs.Prelude.{◌≡◌, ℕ, ◌/◌, ◌<◌, Bool, true, ◌&&◌, ◌==◌, List, [], ◌++◌, length, map, get_or}
 use Rattle.sc_algebra.specs.Sums.{count_below}
 use Rattle.sc_algebra.specs.Permutations.{is_least_for}
@@ -8,7 +8,7 @@ use Rattle.sc_shape.specs.Classes.{entry}
 use Rattle.sc_shape.specs.Shapes.{list_below, IsLeastOfComponent, IsLeastOfBoundary}
 use Rattle.sc_shape.specs.declared.component.Boundary.{Boundary}
 use Rattle.sc_shape.specs.declared.component.Component.{Component}
-use Rattle.sc_shape.specs.Tables.{AreValues, is_own}
+use Rattle.sc_shape.specs.SideLists.{AreValues, is_own}
 
 -- the mates, the next sides and the turns of the first n sides
 pub record AreSteps (g : Sides) (n : ℕ) (mates nexts turns : List ℕ) : Type 0 where
@@ -34,7 +34,7 @@ pub record AreTallies (test : ℕ → Bool) (least : List ℕ) (s : ℕ) (counts
 abbrev pub PointInside : List ℕ → Type 0
 PointInside least = (s : ℕ) → s < length least → entry least s < length least
 
--- the boundary with the least side s, its number of sides taken off a table
+-- the boundary with the least side s, its number of sides taken off a list
 abbrev pub boundary_with : Chain → Sides → List ℕ → ℕ → Boundary
 boundary_with c g lengths s =
     record {
@@ -43,7 +43,7 @@ boundary_with c g lengths s =
       degree = entry lengths s / length (word c (word_of c (label g s)));
     }
 
--- the component with the least side r, its counts taken off tables, without boundaries
+-- the component with the least side r, its counts taken off lists, without boundaries
 abbrev pub bare : List ℕ → List ℕ → ℕ → Component
 bare sizes vertices r =
     record {
@@ -63,12 +63,12 @@ with_boundaries c g components boundaries lengths s x =
 abbrev pub no_component : Component
 no_component = record { least = 0; sides = 0; vertices = 0; edges = 0; boundaries = [] }
 
--- the components stand at the places that a table has at their least sides
+-- the components stand at the places that a list has at their least sides
 pub record AreAtPlaces (components places : List ℕ) (found : List Component) : Type 0 where
   pub inside : (s : ℕ) → s < length components → entry places (entry components s) < length found
   pub here : (s : ℕ) → s < length components → (get_or found (entry places (entry components s)) no_component).least ≡ entry components s
   pub only : (k : ℕ) → k < length found → entry places (get_or found k no_component).least ≡ k
 
--- the table has for each number that is its own the count of those before it
+-- the list has for each number that is its own the count of those before it
 abbrev pub ArePlaces : List ℕ → ℕ → List ℕ → Type 0
 ArePlaces least n places = (r : ℕ) → r < n → is_own least r ≡ true → entry places r ≡ count_below (is_own least) r

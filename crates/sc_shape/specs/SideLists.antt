@@ -1,4 +1,4 @@
--- Tables with an entry per side, out of which the components are made.
+-- Lists with an entry per side, out of which the components are made.
 use Rattle.std.specs.Prelude.{◌≡◌, ℕ, ◌<◌, Bool, ◌==◌, List, length}
 use Rattle.sc_shape.specs.Classes.{entry}
 
