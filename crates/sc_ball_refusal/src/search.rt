@@ -3,7 +3,7 @@
 ghost use Rattle.std.specs.Prelude.{◌≡◌, ◌+◌, ◌≤◌, ◌++◌, ◌∷◌, length, map, IfOk, OnOk};
 ghost use Rattle.std.specs.List.{flat_map};
 ghost use Rattle.sc_theory.specs.Chains.{positions};
-ghost use Rattle.sc_theory.specs.Prices.{pairs as pairs_of};
+ghost use Rattle.sc_theory.specs.Prices.{pairs};
 ghost use Rattle.sc_chain.specs.Faults.{IsSmallChain};
 ghost use Rattle.sc_chain.specs.declared.limits.TheConstants.{MAX_WORDS, MAX_POSITIONS};
 ghost use Rattle.sc_line.specs.Lines.{ended, text_of};
@@ -13,7 +13,7 @@ ghost use Rattle.sc_ball_refusal.specs.Texts as texts;
 ghost use Rattle.sc_ball_refusal.specs.inside.Texts as inside;
 
 use sc_certificate::print_list;
-use sc_chain::{Chain, Pairs};
+use sc_chain::Chain;
 use sc_cone::{Direction, Quadrant};
 use sc_crossing::{Reached, chain_at};
 use sc_text::{Field, print_count_line, print_line};
@@ -43,21 +43,20 @@ fn check_chain(chain: &Chain)
     let _words = chain.words();
 }
 
-/// The inverse pairs of the chain of a quadrant.
-fn quadrant_pairs(
+/// A chain with the inverse pairs of the chain of a quadrant.
+fn chain_of_quadrant(
     alloc: Global,
     quadrant: Quadrant,
     first: &Chain,
     second: &Chain,
-) -> Result<Pairs, AllocError>
+) -> Result<Chain, AllocError>
     requires words { length first.now + length second.now ≤ MAX_WORDS }
     requires positions { positions first.now + positions second.now ≤ MAX_POSITIONS }
-    ensures { IfOk result (λ pairs. pairs ≡ pairs_of (quadrant_chain quadrant first.now second.now)) }
+    ensures { IfOk result (λ chain. pairs chain ≡ pairs (quadrant_chain quadrant first.now second.now)) }
 {
     check_chain(second);
     let chain = chain_at(alloc, quadrant, first, second, UP)?;
-    let pairs = Pairs::of(alloc, &chain)?;
-    Ok(pairs)
+    Ok(chain)
 }
 
 /// Appends the line of a name and a direction.
@@ -75,14 +74,14 @@ pub(crate) fn print_direction(
     print_line(name, &numbers, out)
 }
 
-/// Appends the lines of directions with their lists for the chain of these pairs.
-fn print_reached(pairs: &Pairs, reached: &[Reached], out: &mut Vec<u8>) -> Result<(), AllocError>
+/// Appends the lines of directions with their lists for the chain.
+fn print_reached(chain: &Chain, reached: &[Reached], out: &mut Vec<u8>) -> Result<(), AllocError>
     ensures { OnOk result (out.new.items ≡ out.old.items
-        ++ flat_map (λ r. inside.reached_text pairs.now (reached_of r)) reached.now) }
+        ++ flat_map (λ r. inside.reached_text (pairs chain.now) (reached_of r)) reached.now) }
 {
     for entry in reached {
         print_direction(b"at", entry.direction, out)?;
-        print_list(pairs, &entry.list, out)?;
+        print_list(chain, &entry.list, out)?;
     }
     Ok(())
 }
@@ -98,7 +97,7 @@ pub(crate) fn print_search(
     ensures { OnOk result (out.new.items ≡ out.old.items
         ++ text_of (texts.front_lines heading.now (texts.search_said search.now))) }
 {
-    let pairs = quadrant_pairs(
+    let chain = chain_of_quadrant(
         *out.allocator(),
         search.quadrant,
         search.first,
@@ -106,6 +105,6 @@ pub(crate) fn print_search(
     )?;
     print_line(heading, &[], out)?;
     print_count_line(b"search", search.reached.len() as u64, out)?;
-    print_reached(&pairs, search.reached, out)?;
+    print_reached(&chain, search.reached, out)?;
     Ok(())
 }

@@ -6,4 +6,5 @@ pub mod LineLaws
 pub mod SpelledLaws
 pub mod PrintedLines
 pub mod Pieces
+mod PrintedPairs
 pub mod BoundSums

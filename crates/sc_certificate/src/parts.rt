@@ -13,7 +13,7 @@ ghost use Rattle.sc_certificate.specs.Certificates.{certificate_text, IsCertific
 use crate::certificate::Certificate;
 use crate::printing::{print_base_lines, print_pair_lines};
 use crate::tables::Tables;
-use sc_chain::{Pairs, Pivot};
+use sc_chain::Pivot;
 use sc_text::{
     print_count_line, print_from_line, print_line, print_scale_line, print_sides, print_value_line,
     print_words,
@@ -122,10 +122,7 @@ impl Certificate {
             Part::Sides => print_sides(self.sides.as_slice(), out),
             Part::Scale => print_scale_line(self.list.scale(), out),
             Part::Bases => print_base_lines(self.list.base(), out),
-            Part::Pairs => {
-                let pairs = Pairs::of(*out.allocator(), &self.chain)?;
-                print_pair_lines(&pairs, self.list.pair(), out)
-            }
+            Part::Pairs => print_pair_lines(&self.chain, self.list.pair(), out),
             Part::Tables => print_tables(&self.tables, out),
             Part::Pivots => print_count_line(b"pivots", self.journal.len() as u64, out),
             Part::Journal => print_pivot_lines(self.journal.as_slice(), out),

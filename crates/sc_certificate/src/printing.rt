@@ -1,13 +1,17 @@
 //! Prints price lists.
 
-ghost use Rattle.std.specs.Prelude.{◌≡◌, ◌≤◌, ◌++◌, map, length, OnOk, OnErr};
+ghost use Rattle.std.specs.Prelude.{◌≡◌, ◌<◌, ◌∷◌, [], ◌++◌, map, IfOk, OnOk, OnErr};
+ghost use Rattle.sc_theory.specs.Chains.{positions};
+ghost use Rattle.sc_theory.specs.Prices.{pairs};
+ghost use Rattle.sc_chain.specs.declared.limits.TheConstants.{MAX_POSITIONS};
 ghost use Rattle.sc_line.specs.Lines.{text_of};
 ghost use Rattle.sc_line.specs.Printing.{AppendsPart};
 ghost use Rattle.sc_text.specs.PriceLines as lines;
 ghost use Rattle.sc_certificate.specs.Spelled.{pair_lines, list_text};
+ghost use Rattle.sc_certificate.specs.inside.PrintedPairs.{pairs_from, ArePrinted};
 
 use crate::price_list::PriceList;
-use sc_chain::Pairs;
+use sc_chain::{Chain, is_inverse};
 use sc_text::{print_base_line, print_pair_line, print_scale_line};
 use std::alloc::AllocError;
 
@@ -22,28 +26,68 @@ pub fn print_base_lines(prices: &[i128], out: &mut Vec<u8>) -> Result<(), AllocE
     Ok(())
 }
 
-/// Appends the lines of the prices of pairs, the first of these. Where memory runs out, a front of them was appended.
-pub fn print_pair_lines(pairs: &Pairs, prices: &[i128], out: &mut Vec<u8>) -> Result<(), AllocError>
-    requires { length prices.now ≤ length pairs.now }
-    ensures ok { OnOk result (out.new.items ≡ out.old.items ++ text_of (pair_lines pairs.now prices.now)) }
-    ensures err { OnErr result (AppendsPart out.old.items out.new.items (text_of (pair_lines pairs.now prices.now))) }
+/// Appends the line of a pair beside the first of these prices, where there is one. Answers the prices behind it.
+fn print_next_pair<'a>(
+    p: usize,
+    q: usize,
+    prices: &'a [i128],
+    out: &mut Vec<u8>,
+) -> Result<&'a [i128], AllocError>
+    requires first { p < MAX_POSITIONS }
+    requires second { q < MAX_POSITIONS }
+    ensures ok { IfOk result (λ left. ArePrinted out.old.items prices.now ((p, q) ∷ []) out.new.items left.now) }
+    ensures err { OnErr result (AppendsPart out.old.items out.new.items (text_of (pair_lines ((p, q) ∷ []) prices.now))) }
 {
-    for (row, price) in prices.iter().enumerate() {
-        let (p, q) = pairs.pair_at(row);
-        print_pair_line(p as u32, q as u32, *price, out)?;
+    let [price, left @ ..] = prices else {
+        return Ok(prices);
+    };
+    print_pair_line(p as u32, q as u32, *price, out)?;
+    Ok(left)
+}
+
+/// Appends the lines of the pairs whose lesser position is p, beside the first of these prices. Answers the prices
+/// behind theirs.
+fn print_pairs_of<'a>(
+    chain: &Chain,
+    p: usize,
+    prices: &'a [i128],
+    out: &mut Vec<u8>,
+) -> Result<&'a [i128], AllocError>
+    requires { p < positions chain.now }
+    ensures ok { IfOk result (λ left. ArePrinted out.old.items prices.now (pairs_from chain.now p) out.new.items left.now) }
+    ensures err { OnErr result (AppendsPart out.old.items out.new.items (text_of (pair_lines (pairs_from chain.now p) prices.now))) }
+{
+    let positions = chain.positions();
+    let mut left = prices;
+    for q in p + 1..positions {
+        if is_inverse(chain.letter(p), chain.letter(q)) {
+            left = print_next_pair(p, q, left, out)?;
+        }
+    }
+    Ok(left)
+}
+
+/// Appends the lines of the inverse pairs of a chain beside their prices, and takes memory for the text alone. A price
+/// past the last pair has no line, and a pair past the last price has none. Where memory runs out, a front of the lines
+/// was appended.
+pub fn print_pair_lines(chain: &Chain, prices: &[i128], out: &mut Vec<u8>) -> Result<(), AllocError>
+    ensures ok { OnOk result (out.new.items ≡ out.old.items ++ text_of (pair_lines (pairs chain.now) prices.now)) }
+    ensures err { OnErr result (AppendsPart out.old.items out.new.items (text_of (pair_lines (pairs chain.now) prices.now))) }
+{
+    let mut left = prices;
+    for p in 0..chain.positions() {
+        left = print_pairs_of(chain, p, left, out)?;
     }
     Ok(())
 }
 
-/// Appends the lines of a price list for the chain of these pairs. A price past the last pair has no line. Where memory
-/// runs out, a front of them was appended.
-pub fn print_list(pairs: &Pairs, list: &PriceList, out: &mut Vec<u8>) -> Result<(), AllocError>
-    ensures ok { OnOk result (out.new.items ≡ out.old.items ++ list_text pairs.now list.now) }
-    ensures err { OnErr result (AppendsPart out.old.items out.new.items (list_text pairs.now list.now)) }
+/// Appends the lines of a price list for a chain. A price past the last pair has no line. Where memory runs out, a
+/// front of them was appended.
+pub fn print_list(chain: &Chain, list: &PriceList, out: &mut Vec<u8>) -> Result<(), AllocError>
+    ensures ok { OnOk result (out.new.items ≡ out.old.items ++ list_text (pairs chain.now) list.now) }
+    ensures err { OnErr result (AppendsPart out.old.items out.new.items (list_text (pairs chain.now) list.now)) }
 {
-    let prices = list.pair();
-    let known = prices.len().min(pairs.count());
     print_scale_line(list.scale(), out)?;
     print_base_lines(list.base(), out)?;
-    print_pair_lines(pairs, &prices[..known], out)
+    print_pair_lines(chain, list.pair(), out)
 }

@@ -1,6 +1,7 @@
 //! Prints fans.
 
 ghost use Rattle.std.specs.Prelude.{◌≡◌, ◌<◌, ◌++◌, map, length, All, OnOk, OnErr};
+ghost use Rattle.sc_theory.specs.Prices.{pairs};
 ghost use Rattle.sc_words.specs.declared.limits.TheConstants.{GENERATORS};
 ghost use Rattle.sc_line.specs.Lines.{text_of};
 ghost use Rattle.sc_line.specs.Printing.{AppendsPart};
@@ -12,9 +13,9 @@ ghost use Rattle.sc_fan.specs.inside.Printing.{edge_text, edges_text, counted_ed
 use crate::corner::Corner;
 use crate::corners::print_corner_line;
 use crate::fan::{Edge, Fan};
-use crate::quadrants::{pairs_behind, quadrant_pairs};
+use crate::quadrants::{chain_behind, chain_of_quadrant};
 use sc_certificate::{PriceList, print_list};
-use sc_chain::{Pairs, Word};
+use sc_chain::{Chain, Word};
 use sc_cone::Quadrant;
 use sc_text::{print_count_line, print_line, print_word_line};
 use std::alloc::AllocError;
@@ -84,33 +85,33 @@ fn print_corners(corners: &[Corner], out: &mut Vec<u8>) -> Result<(), AllocError
 // An edge: its number and its list.
 fn print_edge(
     number: u64,
-    pairs: &Pairs,
+    chain: &Chain,
     list: &PriceList,
     out: &mut Vec<u8>,
 ) -> Result<(), AllocError>
-    requires { length list.now.pair ≡ length pairs.now }
-    ensures ok { OnOk result (out.new.items ≡ out.old.items ++ edge_text pairs.now number list.now) }
-    ensures err { OnErr result (AppendsPart out.old.items out.new.items (edge_text pairs.now number list.now)) }
+    requires { length list.now.pair ≡ length (pairs chain.now) }
+    ensures ok { OnOk result (out.new.items ≡ out.old.items ++ edge_text (pairs chain.now) number list.now) }
+    ensures err { OnErr result (AppendsPart out.old.items out.new.items (edge_text (pairs chain.now) number list.now)) }
 {
     print_count_line(b"edge", number, out)?;
-    print_list(pairs, list, out)
+    print_list(chain, list, out)
 }
 
-// Each edge with the pairs of its quadrant.
+// Each edge with the pairs of its quadrant's chain.
 fn print_edge_lines(
     corners: &[Corner],
     edges: &[Edge],
-    upper: &Pairs,
-    lower: &Pairs,
+    upper: &Chain,
+    lower: &Chain,
     out: &mut Vec<u8>,
 ) -> Result<(), AllocError>
-    requires { AreEdgesOf upper.now lower.now corners.now edges.now }
-    ensures ok { OnOk result (out.new.items ≡ out.old.items ++ edges_text upper.now lower.now corners.now edges.now) }
-    ensures err { OnErr result (AppendsPart out.old.items out.new.items (edges_text upper.now lower.now corners.now edges.now)) }
+    requires { AreEdgesOf (pairs upper.now) (pairs lower.now) corners.now edges.now }
+    ensures ok { OnOk result (out.new.items ≡ out.old.items ++ edges_text (pairs upper.now) (pairs lower.now) corners.now edges.now) }
+    ensures err { OnErr result (AppendsPart out.old.items out.new.items (edges_text (pairs upper.now) (pairs lower.now) corners.now edges.now)) }
 {
     for (number, edge) in edges.iter().enumerate() {
-        let pairs = pairs_behind(&corners[number], upper, lower);
-        print_edge(number as u64, pairs, &edge.list, out)?;
+        let chain = chain_behind(&corners[number], upper, lower);
+        print_edge(number as u64, chain, &edge.list, out)?;
     }
     Ok(())
 }
@@ -119,13 +120,13 @@ fn print_edge_lines(
 fn print_counted_edges(
     corners: &[Corner],
     edges: &[Edge],
-    upper: &Pairs,
-    lower: &Pairs,
+    upper: &Chain,
+    lower: &Chain,
     out: &mut Vec<u8>,
 ) -> Result<(), AllocError>
-    requires { AreEdgesOf upper.now lower.now corners.now edges.now }
-    ensures ok { OnOk result (out.new.items ≡ out.old.items ++ counted_edges_text upper.now lower.now corners.now edges.now) }
-    ensures err { OnErr result (AppendsPart out.old.items out.new.items (counted_edges_text upper.now lower.now corners.now edges.now)) }
+    requires { AreEdgesOf (pairs upper.now) (pairs lower.now) corners.now edges.now }
+    ensures ok { OnOk result (out.new.items ≡ out.old.items ++ counted_edges_text (pairs upper.now) (pairs lower.now) corners.now edges.now) }
+    ensures err { OnErr result (AppendsPart out.old.items out.new.items (counted_edges_text (pairs upper.now) (pairs lower.now) corners.now edges.now)) }
 {
     print_count_line(b"edges", edges.len() as u64, out)?;
     print_edge_lines(corners, edges, upper, lower, out)
@@ -135,15 +136,15 @@ impl Fan {
     ghost use Rattle.sc_fan.specs.FanRead.{fan_said};
     ghost use Rattle.sc_fan.specs.Printing.{part_text};
 
-    // The edges, with their pairs.
+    // The edges, by the chains of the quadrants.
     fn print_edges(&self, out: &mut Vec<u8>) -> Result<(), AllocError>
         requires { IsFanInRange (fan_said self.now) }
         ensures ok { OnOk result (out.new.items ≡ out.old.items ++ text_of (edges_lines (fan_said self.now).first (fan_said self.now).second (fan_said self.now).corners (fan_said self.now).lists)) }
         ensures err { OnErr result (AppendsPart out.old.items out.new.items (text_of (edges_lines (fan_said self.now).first (fan_said self.now).second (fan_said self.now).corners (fan_said self.now).lists))) }
     {
         let alloc = *out.allocator();
-        let upper = quadrant_pairs(alloc, Quadrant::Upper, &self.first, &self.second)?;
-        let lower = quadrant_pairs(alloc, Quadrant::Lower, &self.first, &self.second)?;
+        let upper = chain_of_quadrant(alloc, Quadrant::Upper, &self.first, &self.second)?;
+        let lower = chain_of_quadrant(alloc, Quadrant::Lower, &self.first, &self.second)?;
         print_counted_edges(
             self.corners.as_slice(),
             self.edges.as_slice(),

@@ -72,6 +72,21 @@ fn words_of(
     Ok(words)
 }
 
+/// The chain of a quadrant.
+pub(crate) fn chain_of_quadrant(
+    alloc: Global,
+    quadrant: Quadrant,
+    first: &Chain,
+    second: &Chain,
+) -> Result<Chain, AllocError>
+    requires { IsChainInRange (quadrant_chain quadrant first.now second.now) }
+    ensures { IfOk result (λ chain. chain ≡ quadrant_chain quadrant first.now second.now) }
+{
+    let words = words_of(alloc, quadrant, first, second)?;
+    let chain = chain_of_words(alloc, words)?;
+    Ok(chain)
+}
+
 /// The inverse pairs of the chain of a quadrant.
 pub(crate) fn quadrant_pairs(
     alloc: Global,
@@ -82,9 +97,9 @@ pub(crate) fn quadrant_pairs(
     requires { IsChainInRange (quadrant_chain quadrant first.now second.now) }
     ensures { IfOk result (λ pairs. pairs ≡ pairs_of (quadrant_chain quadrant first.now second.now)) }
 {
-    let words = words_of(alloc, quadrant, first, second)?;
-    let chain = chain_of_words(alloc, words)?;
-    Pairs::of(alloc, &chain)
+    let chain = chain_of_quadrant(alloc, quadrant, first, second)?;
+    let pairs = Pairs::of(alloc, &chain)?;
+    Ok(pairs)
 }
 
 // The quadrant of the edge that goes from a corner.
@@ -101,6 +116,16 @@ fn quadrant_behind(corner: &Corner) -> Quadrant
 /// The pairs of this quadrant's chain.
 pub(crate) fn pairs_behind<'a>(corner: &Corner, upper: &'a Pairs, lower: &'a Pairs) -> &'a Pairs
     ensures { result.now ≡ pairs_in (quadrant_from corner.now.direction.t) upper.now lower.now }
+{
+    match quadrant_behind(corner) {
+        Quadrant::Lower => lower,
+        Quadrant::Upper => upper,
+    }
+}
+
+/// The chain of the quadrant of the edge that goes from a corner.
+pub(crate) fn chain_behind<'a>(corner: &Corner, upper: &'a Chain, lower: &'a Chain) -> &'a Chain
+    ensures { pairs_of result.now ≡ pairs_in (quadrant_from corner.now.direction.t) (pairs_of upper.now) (pairs_of lower.now) }
 {
     match quadrant_behind(corner) {
         Quadrant::Lower => lower,

@@ -1,35 +1,37 @@
-use Rattle.std.proofs.Common.{get_or, pos, FitsSigned, to_z-of_z, rules}
-use Rattle.std.specs.Int.{w128}
-use Rattle.std.specs.List.{zip}
-use Rattle.sc_text.specs.PriceLines.{pair_line}
+use Rattle.std.proofs.Common.{◌≡◌, ℕ, ◌+◌, ◌-◌, ◌++◌, suc, List, subst, ◌∙◌, arith, rules}
+use Rattle.sc_theory.specs.Chains.{positions}
+use Rattle.sc_theory.specs.Prices.{is_pair}
+use Rattle.sc_line.specs.Lines.{text_of}
 use Rattle.sc_line.proofs.PrintLaws.{on_err}
-use Rattle.sc_certificate.proofs.PrintedLines.{lines_more, lines_part, lines_done, zip_line, zip_inside, zip_past}
+use Rattle.sc_chain.proofs.PairLists.{seconds, all_seconds, firsts_more}
+use Rattle.sc_certificate.specs.Spelled.{pair_lines}
+use Rattle.sc_certificate.specs.inside.PrintedPairs.{ArePrinted}
+use Rattle.sc_certificate.proofs.PrintedPairs.{printed_more, printed_part, firsts_at}
 use Rattle.sc_certificate.proofs.printing.print_pair_lines.Goals as goal
 
-pub returns-in_err-print_pair_line-clause-err : goal.returns-in_err-print_pair_line-clause-err
-returns-in_err-print_pair_line-clause-err c =
-    let i = c.loop-row.row in
-    let ps = c.args.pairs.now in
-    let prices = c.args.prices.now in
-    let fits : FitsSigned w128 (get_or prices i (pos 0)) = search rules in
-    let part = simp (to_z-of_z fits) at c.in_err-print_pair_line.ensures.err in
+pub returns-in_err-left-clause-err : goal.returns-in_err-left-clause-err
+returns-in_err-left-clause-err c =
+    let p = c.loop-p.p in
+    let test = is_pair c.args.chain.now in
+    let n = positions c.args.chain.now in
     on_err _
-    (lines_part (λ e. pair_line e.0 e.1) (zip ps prices) i ((0, 0), pos 0) (pair_line c.pair_at-p.result (get_or prices i (pos 0)))
-    (zip_inside ps prices i c.requires c.loop-row-test.true) (zip_line ps prices i c.requires c.pair_at-p.result c.loop-row-test.true c.pair_at-p.ensures.pair)
-    c.args.out.now.items c.loop-row.out.items c.print_pair_line.new.out.items c.loop-row.invariant part)
+    (printed_part c.args.out.now.items c.args.prices.now (all_seconds test n 0 p) c.loop-p.out.items c.loop-p.left.now c.loop-p.invariant
+    (seconds p (test p) 0 n) (all_seconds test n (p + 1) (n - suc p)) (all_seconds test n 0 n) c.print_pairs_of.new.out.items
+    (firsts_at test n n p (search rules)) c.in_err-left.ensures.err)
 
-pub loop-row-preserved : goal.loop-row-preserved
-loop-row-preserved c =
-    let i = c.loop-row.row in
-    let ps = c.args.pairs.now in
-    let prices = c.args.prices.now in
-    let fits : FitsSigned w128 (get_or prices i (pos 0)) = search rules in
-    let all = simp (to_z-of_z fits) at c.in_ok-print_pair_line.ensures.ok in
-    lines_more (λ e. pair_line e.0 e.1) (zip ps prices) i ((0, 0), pos 0) (pair_line c.pair_at-p.result (get_or prices i (pos 0)))
-    (zip_inside ps prices i c.requires c.loop-row-test.true) (zip_line ps prices i c.requires c.pair_at-p.result c.loop-row-test.true c.pair_at-p.ensures.pair)
-    c.args.out.now.items c.loop-row.out.items c.print_pair_line.new.out.items c.loop-row.invariant all
+pub loop-p-preserved : goal.loop-p-preserved
+loop-p-preserved c =
+    let p = c.loop-p.p in
+    let test = is_pair c.args.chain.now in
+    let n = positions c.args.chain.now in
+    subst (λ (ps : List (ℕ × ℕ)). ArePrinted c.args.out.now.items c.args.prices.now ps c.print_pairs_of.new.out.items c.in_ok-left.left.now) (firsts_more test n p)
+    (printed_more c.args.out.now.items c.args.prices.now (all_seconds test n 0 p) c.loop-p.out.items c.loop-p.left.now c.loop-p.invariant
+    (seconds p (test p) 0 n) c.print_pairs_of.new.out.items c.in_ok-left.left.now c.in_ok-left.ensures.ok)
 
 pub returns-clause-ok : goal.returns-clause-ok
 returns-clause-ok c =
-    lines_done (λ e. pair_line e.0 e.1) (zip c.args.pairs.now c.args.prices.now) c.loop-row.row c.args.out.now.items c.loop-row.out.items
-    (zip_past c.args.pairs.now c.args.prices.now c.loop-row.row c.requires c.loop-row-test.false) c.loop-row.invariant
+    let test = is_pair c.args.chain.now in
+    let n = positions c.args.chain.now in
+    let last : c.loop-p.p ≡ c.positions-p-end.result = omega (arith, c.loop-p.auto.p-end, c.loop-p-test.false) in
+    subst (λ (p : ℕ). c.loop-p.out.items ≡ c.args.out.now.items ++ text_of (pair_lines (all_seconds test n 0 p) c.args.prices.now))
+    (last ∙ c.positions-p-end.ensures.positions) c.loop-p.invariant.lines

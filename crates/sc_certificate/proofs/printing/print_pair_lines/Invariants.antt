@@ -1,8 +1,8 @@
-use Rattle.std.proofs.Common.{◌≡◌, ◌++◌, take, map}
-use Rattle.std.specs.List.{zip}
-use Rattle.sc_line.specs.Lines.{text_of}
-use Rattle.sc_text.specs.PriceLines.{pair_line}
+use Rattle.sc_theory.specs.Chains.{positions}
+use Rattle.sc_theory.specs.Prices.{is_pair}
+use Rattle.sc_chain.proofs.PairLists.{all_seconds}
+use Rattle.sc_certificate.specs.inside.PrintedPairs.{ArePrinted}
 use Rattle.sc_certificate.proofs.printing.print_pair_lines.Given as goal
 
-abbrev pub invariant-loop-row : goal.invariant-loop-row
-invariant-loop-row l = l.out.items ≡ l.fn.out.items ++ text_of (map (λ e. pair_line e.0 e.1) (take l.row (zip l.pairs l.prices)))
+abbrev pub invariant-loop-p : goal.invariant-loop-p
+invariant-loop-p l = ArePrinted l.fn.out.items l.prices (all_seconds (is_pair l.chain) (positions l.chain) 0 l.p) l.out.items l.left

@@ -11,11 +11,11 @@ use Rattle.sc_fan.proofs.Pieces.{edges_pieces}
 use Rattle.sc_fan.proofs.Ranges.{quadrant_in_range, edges_in_range}
 use Rattle.sc_fan.proofs.fan.Fan.print_edges.Goals as goal
 
-pub quadrant_pairs-requires : goal.quadrant_pairs-requires
-quadrant_pairs-requires c = quadrant_in_range (fan_said c.args.self.now) Upper c.requires
+pub chain_of_quadrant-requires : goal.chain_of_quadrant-requires
+chain_of_quadrant-requires c = quadrant_in_range (fan_said c.args.self.now) Upper c.requires
 
-pub quadrant_pairs-requires-2 : goal.quadrant_pairs-requires-2
-quadrant_pairs-requires-2 c = quadrant_in_range (fan_said c.args.self.now) Lower c.requires
+pub chain_of_quadrant-requires-2 : goal.chain_of_quadrant-requires-2
+chain_of_quadrant-requires-2 c = quadrant_in_range (fan_said c.args.self.now) Lower c.requires
 
 pub print_counted_edges-requires : goal.print_counted_edges-requires
 print_counted_edges-requires c = rw (c.in_ok-upper.ensures, c.in_ok-lower.ensures, c.as_slice.ensures.value, c.as_slice-2.ensures.value) (edges_in_range c.args.self.now c.requires)
