@@ -1,5 +1,5 @@
-//! Pivots 513 rows with drawn products, so that the time of a pivot can be taken from outside: the difference of two runs with
-//! other numbers of pivots. About 150 rows are changed by each pivot. The stored run is short.
+//! Pivots 513 rows with drawn products, so that the time of a pivot can be taken from outside: the difference of two
+//! runs with other numbers of pivots. About 150 rows are changed by each pivot. The stored run is short.
 #![tactic(auto)]
 
 ghost use Rattle.std.specs.Prelude.{◌≡◌, ◌<◌, length, pos, IfOk};

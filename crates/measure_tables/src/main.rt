@@ -1,5 +1,5 @@
-//! Asks for the tables of a chain of 64 positions on two generators fifty times, so that the time of a call can be taken
-//! from outside. The prices are the length row, by which each closed walk costs its number of steps.
+//! Asks for the tables of a chain of 64 positions on two generators fifty times, so that the time of a call can be
+//! taken from outside. The prices are the length row, by which each closed walk costs its number of steps.
 #![tactic(auto)]
 
 ghost use Rattle.std.specs.Prelude.{◌<◌, ◌≤◌, ◌^◌, length, IfOk, IfSome};

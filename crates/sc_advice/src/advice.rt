@@ -13,11 +13,12 @@ use sc_rounded_basis::limits::MAX_POLYGONS;
 use sc_rounded_basis::{Column, Mode, ONE};
 use std::alloc::{AllocError, Global};
 
-/// By how much the polygons of the third list may be worth less than they cost, with `PRICE_BITS` bits behind the point.
+/// By how much the polygons of the third list may be worth less than they cost, with `PRICE_BITS` bits behind the
+/// point.
 const TIGHT: i64 = ONE / 20;
 
-/// Polygons of a chain that are worth trying first. What order is best is for the caller to say; in each list a polygon stands
-/// once.
+/// Polygons of a chain that are worth trying first. What order is best is for the caller to say; in each list a polygon
+/// stands once.
 #[derive(Drop)]
 pub struct Advice {
     /// Those round the vertices of a good surface; none where the chain isn't balanced, or too long for one.
@@ -28,8 +29,8 @@ pub struct Advice {
     pub tight: Vec<Polygon>,
     /// All that the search found.
     pub pool: Vec<Polygon>,
-    /// What the search takes the greatest worth of a surface to be, with 32 bits behind the point: the bound of its last
-    /// prices. In mode Plain that is about half the weighted length less twice the stable commutator length.
+    /// What the search takes the greatest worth of a surface to be, with 32 bits behind the point: the bound of its
+    /// last prices. In mode Plain that is about half the weighted length less twice the stable commutator length.
     pub estimate: i64,
 }
 
@@ -73,7 +74,8 @@ fn polygons_at(
     Ok(polygons)
 }
 
-/// The places of the columns outside the basis that cost little more than they are worth, behind the items of the basis.
+/// The places of the columns outside the basis that cost little more than they are worth, behind the items of the
+/// basis.
 fn tight_places(
     alloc: Global,
     columns: &[Column],
@@ -97,10 +99,10 @@ fn all_places(alloc: Global, bound: usize) -> Result<Vec<usize>, AllocError> {
     Ok(places)
 }
 
-/// Polygons of a chain that are worth trying first. It tries at most 200,000 exchanges of mates on one copy and on two, and
-/// makes at most 24 exchanges a row of the chain, each with a search for new polygons at most, and at last at most as many as
-/// there are rows, eight times. What is proved of that is that no list has more than `MAX_POLYGONS` polygons. The same chain
-/// and mode have the same advice on every machine.
+/// Polygons of a chain that are worth trying first. It tries at most 200,000 exchanges of mates on one copy and on two,
+/// and makes at most 24 exchanges a row of the chain, each with a search for new polygons at most, and at last at most
+/// as many as there are rows, eight times. What is proved of that is that no list has more than `MAX_POLYGONS`
+/// polygons. The same chain and mode have the same advice on every machine.
 pub fn advise(alloc: Global, chain: &Chain, mode: Mode) -> Result<Advice, AllocError>
     ensures { IfOk result (IsAdviceFor chain.now) }
 {

@@ -22,7 +22,8 @@ const BROKEN_VALUE: i64 = -(1 << (VALUE_BITS - 10));
 /// .. and that below which it isn't sound.
 const SOUND_VALUE: i64 = -(1 << (VALUE_BITS - 11));
 
-/// The least pivots at first and at last, and the pivots that are small at first, with `PRICE_BITS` bits behind the point.
+/// The least pivots at first and at last, and the pivots that are small at first, with `PRICE_BITS` bits behind the
+/// point.
 const FIRST_LEAST_PIVOT: i64 = 3 * ONE / 100;
 
 const LAST_LEAST_PIVOT: i64 = ONE / 4;
@@ -259,8 +260,8 @@ impl Search {
         bound
     }
 
-    /// Searches until no polygon is worth more than it costs, or as long as it may: at most three times as many rounds as
-    /// there may be exchanges, and a few.
+    /// Searches until no polygon is worth more than it costs, or as long as it may: at most three times as many rounds
+    /// as there may be exchanges, and a few.
     pub(crate) fn run(&mut self, alloc: Global, mode: Mode) -> Result<(), AllocError> {
         let most = most_exchanges(mode, self.basis.items.len());
         let rounds = most.saturating_mul(3).saturating_add(8);

@@ -1,5 +1,5 @@
-//! A search for a surface with many vertices: from any way to put the sides together in twos, exchanges of mates that don't
-//! lower the number of vertices.
+//! A search for a surface with many vertices: from any way to put the sides together in twos, exchanges of mates that
+//! don't lower the number of vertices.
 
 ghost use Rattle.std.specs.Prelude.{◌<◌};
 ghost use Rattle.sc_theory.specs.Chains.{positions};

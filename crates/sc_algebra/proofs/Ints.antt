@@ -107,6 +107,6 @@ cancel_factor (pos zero) a b p h = absurd (p refl)
 cancel_factor (pos (suc n)) a b p h = cancel (suc n) a b (omega arith) h
 cancel_factor (negsuc n) a b p h = cancel (suc n) a b (omega arith) (omega (arith, ints))
 
--- ---- For `simp`: a sum of products, each bracketed to the right with its factors in one order. What is then left is linear in the
--- products: `simp products (omega (arith, ints))`.
+-- ---- For `simp`: a sum of products, each bracketed to the right with its factors in one order. What is then left is
+-- linear in the products: `simp products (omega (arith, ints))`.
 pub ruleset products = (mul_add, add_mul, mul_neg, neg_mul, neg_ℤ-+ℤ, neg_ℤ-neg_ℤ, mul_assoc, mul_comm, mul_left_comm)

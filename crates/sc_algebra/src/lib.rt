@@ -49,7 +49,8 @@ pub fn whole_number_products()
     ensures negate { (a b : ℤ) → a *ℤ neg_ℤ b ≡ neg_ℤ (a *ℤ b) }
 {}
 
-/// The order of whole numbers holds of their products by a natural number, and a factor that is not 0 can be taken away.
+/// The order of whole numbers holds of their products by a natural number, and a factor that is not 0 can be taken
+/// away.
 pub fn whole_number_order()
     ensures multiplied { (n : ℕ) (a b : ℤ) → a ≤ℤ b → (pos n *ℤ a) ≤ℤ (pos n *ℤ b) }
     ensures divided { (n : ℕ) (a b : ℤ) → 0 < n → (pos n *ℤ a) ≤ℤ (pos n *ℤ b) → a ≤ℤ b }
@@ -147,7 +148,8 @@ pub fn orbits_return()
         (s : ℕ) → s < n → (k : ℕ) × (k < n) × (iterate t (suc k) s ≡ s) }
 {}
 
-/// The test for the least number of an orbit looks at as many iterates as there are numbers, and speaks of all iterates.
+/// The test for the least number of an orbit looks at as many iterates as there are numbers, and speaks of all
+/// iterates.
 pub fn least_means_least()
     ensures least { (t : ℕ → ℕ) (n : ℕ) → IsPermutation t n → (s : ℕ) → s < n →
         IsTrue (is_least_for t n s) ↔ ((k : ℕ) → s ≤ iterate t k s) }

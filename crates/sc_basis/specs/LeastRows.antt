@@ -2,7 +2,8 @@
 use Rattle.std.specs.Prelude.{◌≢◌, ℕ, suc, ◌<◌, ℤ, pos, ◌*ℤ◌, ◌<ℤ◌}
 use Rattle.sc_basis.specs.Lines.{LexLess, line}
 
--- the list of row i over a i is below that of row j over a j; the list is the row's product with b followed by its entries
+-- the list of row i over a i is below that of row j over a j; the list is the row's product with b followed by its
+-- entries
 abbrev pub Precedes : ℕ → (ℕ → ℤ) → (ℕ → ℤ) → (ℕ → ℕ → ℤ) → ℕ → ℕ → Type 0
 Precedes r b a row i j = LexLess (suc r) (λ k. a j *ℤ line r b (row i) k) (λ k. a i *ℤ line r b (row j) k)
 

@@ -34,8 +34,8 @@ pub record IsLawful (r : ℕ) (b : ℕ → ℤ) (basis : Basis) (p : Pivot) : Ty
 abbrev pub after_pivot : Basis → Pivot → Basis
 after_pivot basis p = set basis p.0 (Some p.1)
 
--- ---- the numbers after a pivot, from those before it. In all of these a l is the product of the leaving row with the column
--- the leaving row is divided by its product with the column; from another row so much of it is taken away that
+-- ---- the numbers after a pivot, from those before it. In all of these a l is the product of the leaving row with the
+-- column the leaving row is divided by its product with the column; from another row so much of it is taken away that
 -- the product with the column becomes 0
 pub record RowsPivoted (r : ℕ) (row : ℕ → ℕ → ℤ) (denominator : ℕ → ℤ) (row' : ℕ → ℕ → ℤ) (denominator' : ℕ → ℤ) (a : ℕ → ℤ) (l : ℕ) : Type 0 where
   pub left : IsReduced r (row' l) (denominator' l) (row l) (a l)

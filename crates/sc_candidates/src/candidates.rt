@@ -12,8 +12,8 @@ use sc_rows::PriceRows;
 use sc_weight::Pair;
 use std::alloc::{AllocError, Global};
 
-/// Polygons of a chain that are worth trying first, in stages: those of a good surface, those of a good basis, those near to
-/// it, and all that the search for these knew.
+/// Polygons of a chain that are worth trying first, in stages: those of a good surface, those of a good basis, those
+/// near to it, and all that the search for these knew.
 #[derive(Drop)]
 pub struct Candidates {
     steps: Steps,

@@ -1,5 +1,5 @@
-//! The polygons of advice in the order in which they are tried at given prices. Which of them is taken is free: nothing is
-//! proved of that, but that it is a polygon of the chain.
+//! The polygons of advice in the order in which they are tried at given prices. Which of them is taken is free: nothing
+//! is proved of that, but that it is a polygon of the chain.
 #![tactic(auto)]
 
 mod candidates;

@@ -1,5 +1,5 @@
-//! The steps of a chain with the rows that price them, and their prices. Sums that don't fit 128 bits are cut to the nearest
-//! number that does: such a price makes a worse choice and nothing else.
+//! The steps of a chain with the rows that price them, and their prices. Sums that don't fit 128 bits are cut to the
+//! nearest number that does: such a price makes a worse choice and nothing else.
 
 ghost use Rattle.std.specs.Prelude.{◌<◌};
 ghost use Rattle.sc_theory.specs.Chains.{positions};

@@ -31,7 +31,8 @@ pub(crate) struct Range {
     pub(crate) length: usize,
 }
 
-/// By how much a price in bulk outweighs one in fine where both are one number: more than any walk of a polygon costs in fine.
+/// By how much a price in bulk outweighs one in fine where both are one number: more than any walk of a polygon costs
+/// in fine.
 pub(crate) fn bulk_factor(priced: &[Pair], positions: usize) -> i128 {
     let mut greatest = 0_i128;
     for price in priced {
@@ -134,8 +135,8 @@ fn walk_back(alloc: Global, layers: &[Vec<Reached>], start: usize) -> Result<Vec
     Ok(walk)
 }
 
-/// The closed walks from the start, through no position before it, that are below the threshold: the cheapest of each of the
-/// first lengths that have one.
+/// The closed walks from the start, through no position before it, that are below the threshold: the cheapest of each
+/// of the first lengths that have one.
 pub(crate) fn closed_walks(
     alloc: Global,
     into: &[Vec<Arc>],

@@ -26,8 +26,8 @@ struct Place {
     word: usize,
 }
 
-/// A list of nonempty reduced words with their weights, within the limits of `limits`. Its positions are numbered from 0
-/// through the words in their order, and the words from 0.
+/// A list of nonempty reduced words with their weights, within the limits of `limits`. Its positions are numbered from
+/// 0 through the words in their order, and the words from 0.
 #[derive(Debug, Drop)]
 pub struct Chain {
     words: Vec<(u32, Word)>,

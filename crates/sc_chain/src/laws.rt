@@ -17,8 +17,8 @@ pub fn polygons_are_decided()
     ensures polygons { (c : Chain) (w : List ℕ) → IsTrue (is_polygon c w) ↔ IsPolygon c w }
 {}
 
-/// Each pair of positions with inverse letters has its row, with Plus where the lesser position comes first; each row is
-/// that of its pair; and the row with its sign gives the price of the pair.
+/// Each pair of positions with inverse letters has its row, with Plus where the lesser position comes first; each row
+/// is that of its pair; and the row with its sign gives the price of the pair.
 pub fn pairs_have_rows()
     ensures rows { (c : Chain) (p q : ℕ) → p < positions c → q < positions c →
         (IsSome (row_in (pairs c) p q) ↔ (letter c q ≡ inverse_letter (letter c p))) }

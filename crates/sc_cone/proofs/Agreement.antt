@@ -1,4 +1,5 @@
--- Two lists that are both tight at two directions agree on the whole plane, and so are tight at the same directions beyond.
+-- Two lists that are both tight at two directions agree on the whole plane, and so are tight at the same directions
+-- beyond.
 use Rattle.std.proofs.Common.{◌≡◌, ℕ, ◌<◌, ℤ, pos, ◌+ℤ◌, ◌*ℤ◌, ◌<ℤ◌, ◌≤ℤ◌, unsigned_abs, arith, ap}
 use Rattle.std.proofs.lemmas.Int.{ints}
 use Rattle.sc_algebra.proofs.Ints.{products, cancel}

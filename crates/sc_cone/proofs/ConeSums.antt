@@ -1,4 +1,5 @@
--- The chain of a direction is linear in the direction: its weights, its weighted length, a list's bound and value, its totals.
+-- The chain of a direction is linear in the direction: its weights, its weighted length, a list's bound and value, its
+-- totals.
 use Rattle.std.proofs.Common.{◌≡◌, ℕ, zero, suc, ◌+◌, ◌*◌, [], ◌∷◌, length, get_or, ℤ, pos, ◌+ℤ◌, ◌-ℤ◌, ◌*ℤ◌, arith, sym, ap, ap₂, ◌∙◌}
 use Rattle.std.proofs.lemmas.Int.{ints}
 use Rattle.sc_algebra.specs.Sums.{sum_below}

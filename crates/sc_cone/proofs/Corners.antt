@@ -1,4 +1,5 @@
--- The corners of a fan are a function of the two chains: going round, neither of two fans can turn further than the other.
+-- The corners of a fan are a function of the two chains: going round, neither of two fans can turn further than the
+-- other.
 use Rattle.std.proofs.Common.{◌≡◌, ℕ, zero, suc, ◌+◌, ◌-◌, ◌<◌, length, ℤ, pos, negsuc, ◌<ℤ◌, ◌≤ℤ◌, inl, inr, arith, refl, sym, ap, subst, ◌∙◌}
 use Rattle.std.proofs.lemmas.Int.{ints}
 use Rattle.std.proofs.lemmas.Bool.{cases_lt, cases_order}
@@ -27,8 +28,8 @@ pub record Leg (first second : Chain) (q : Quadrant) (d e : Direction) (l : Pric
   pub at_e : IsTightAt q first second l e
 
 module _ (first second : Chain) (is_first : IsChain first) (is_second : IsChain second) (q : Quadrant) where
-  -- two lists from d, one to e and one further to u, with the next edge after e: its list at e makes the first one tight
-  -- at the next edge's far end too
+  -- two lists from d, one to e and one further to u, with the next edge after e: its list at e makes the first one
+  -- tight at the next edge's far end too
   pub no_further : (d e u f : Direction) (l m n : Prices) → Leg first second q d e l → Leg first second q d u m → Leg first second q e f n → TurnsLeft e u → IsTightAt q first second l f
   no_further d e u f l m n short long next left =
       let m_e : IsTightAt q first second m e =

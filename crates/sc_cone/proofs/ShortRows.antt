@@ -1,4 +1,5 @@
--- Rows of directions with bounded coordinates are short, and the coordinates of open neighbours' next directions are bounded.
+-- Rows of directions with bounded coordinates are short, and the coordinates of open neighbours' next directions are
+-- bounded.
 use Rattle.std.proofs.Common.{◌≡◌, ℕ, zero, suc, ◌+◌, ◌-◌, ◌*◌, ◌<◌, ◌≤◌, List, length, unsigned_abs, inl, inr, arith, ap, subst, mul-le-mul_left, mul-le-mul_right}
 use Rattle.std.proofs.lemmas.Int.{ints}
 use Rattle.std.proofs.lemmas.Bool.{cases_lt}

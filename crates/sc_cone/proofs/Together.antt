@@ -1,5 +1,5 @@
--- Copies of labelled fatgraphs over two directions of a quadrant are one over a combination of the directions, and tight
--- for a list that is tight for both.
+-- Copies of labelled fatgraphs over two directions of a quadrant are one over a combination of the directions, and
+-- tight for a list that is tight for both.
 use Rattle.std.proofs.Common.{◌≡◌, ℕ, ◌+◌, ◌*◌, ◌<◌, length, ℤ, pos, ◌+ℤ◌, ◌*ℤ◌, unsigned_abs, arith, ap, ap₂, subst, ◌∙◌}
 use Rattle.std.proofs.lemmas.Int.{ints}
 use Rattle.sc_algebra.proofs.Ints.{products}

@@ -1,4 +1,5 @@
--- Words of weight 0 after a chain label no side: the labelled fatgraphs over the chain with them are those over the chain.
+-- Words of weight 0 after a chain label no side: the labelled fatgraphs over the chain with them are those over the
+-- chain.
 use Rattle.std.proofs.Common.{◌≡◌, ℕ, zero, suc, ◌+◌, ◌*◌, ◌<◌, ◌≤◌, ◌==◌, ◌↔◌, [], ◌∷◌, ◌++◌, length, get_or, ℤ, inl, inr, arith, refl, sym, ap, subst, ◌∙◌}
 use Rattle.std.proofs.lemmas.Bool.{cases_lt, ne_eqb, eq-eqb}
 use Rattle.std.proofs.lemmas.List.Sums.{sum_by-append}

@@ -1,4 +1,5 @@
--- The cones of a fan's edges: each lies in its quadrant, values on it are those of the edge's list, and together they cover.
+-- The cones of a fan's edges: each lies in its quadrant, values on it are those of the edge's list, and together they
+-- cover.
 use Rattle.std.proofs.Common.{◌≡◌, ◌⊎◌, ℕ, zero, suc, ◌+◌, ◌-◌, ◌<◌, ◌≤◌, length, ℤ, pos, ◌<ℤ◌, ◌≤ℤ◌, inl, inr, arith, sym, ap, subst, ◌∙◌}
 use Rattle.std.proofs.lemmas.Int.{ints}
 use Rattle.std.proofs.lemmas.Bool.{cases_lt}

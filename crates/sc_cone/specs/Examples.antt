@@ -10,7 +10,8 @@ use Rattle.sc_cone.specs.declared.Direction.{Direction}
 use Rattle.sc_cone.specs.Directions.{down, right, up}
 use Rattle.sc_cone.specs.Fans.{Corner, Edge, Fan}
 
--- a step into a letter A costs 1, and others nothing; the words are a, A, a, A above the first axis, and a, A, A, a below
+-- a step into a letter A costs 1, and others nothing; the words are a, A, a, A above the first axis, and a, A, A, a
+-- below
 abbrev pub upper_list : Prices
 upper_list = record { scale = pos 1; base = pos 0 ∷ pos 1 ∷ pos 0 ∷ pos 1 ∷ []; pair = pos 0 ∷ pos 0 ∷ pos 0 ∷ pos 0 ∷ [] }
 

@@ -36,8 +36,8 @@ SameValueAt q first second l m d =
     let c : Chain = chain_of q first second d in
     list_num c l *ℤ list_den m ≡ list_num c m *ℤ list_den l
 
--- the form of a list, two numbers by the same unit: what the first chain adds to its values each time that it is taken, and
--- what the second adds, whose words come after the first chain's
+-- the form of a list, two numbers by the same unit: what the first chain adds to its values each time that it is taken,
+-- and what the second adds, whose words come after the first chain's
 abbrev pub first_form : Chain → Prices → ℤ
 first_form first list = list_num first list
 
@@ -45,8 +45,8 @@ abbrev pub second_form : Chain → Chain → Prices → ℤ
 second_form first second list =
     list.scale *ℤ pos (weighted_length second) -ℤ pos 2 *ℤ sum_below (λ w. pos (weight second w) *ℤ get_or list.base (length first + w) (pos 0)) (length second)
 
--- by a common unit, what the list l gives more than the list m each time that the first chain is taken, and what m gives
--- more than l each time that the second is: their values cross where these balance
+-- by a common unit, what the list l gives more than the list m each time that the first chain is taken, and what m
+-- gives more than l each time that the second is: their values cross where these balance
 abbrev pub first_gap : Chain → Prices → Prices → ℤ
 first_gap first l m = first_form first l *ℤ list_den m -ℤ first_form first m *ℤ list_den l
 

@@ -9,8 +9,8 @@ ghost use Rattle.sc_cone.specs.Directions.{IsIn, IsCombination};
 ghost use Rattle.sc_cone.specs.Cones.{chain_of, quadrant_chain};
 ghost use Rattle.sc_cone.specs.Values.{list_num, first_form, second_form};
 
-/// A list that covers a quadrant's chain covers the chain of each of its directions: whether it covers doesn't depend on
-/// the weights.
+/// A list that covers a quadrant's chain covers the chain of each of its directions: whether it covers doesn't depend
+/// on the weights.
 pub fn covering_sees_no_weights()
     ensures { (q : Quadrant) (first second : Chain) (list : Prices) (d : Direction) → Covers (quadrant_chain q first second) list ↔ Covers (chain_of q first second d) list }
 {}
@@ -29,8 +29,8 @@ pub fn directions_have_chains()
     ensures balanced { (q : Quadrant) (first second : Chain) (d : Direction) → IsBalanced first → IsBalanced second → IsBalanced (chain_of q first second d) }
 {}
 
-/// The weighted length of a direction's chain, and a list's value there, by those of the two chains: the same sums in both
-/// quadrants.
+/// The weighted length of a direction's chain, and a list's value there, by those of the two chains: the same sums in
+/// both quadrants.
 pub fn values_by_forms()
     ensures lengths { (q : Quadrant) (first second : Chain) (d : Direction) → weighted_length (chain_of q first second d) ≡ unsigned_abs d.s * weighted_length first + unsigned_abs d.t * weighted_length second }
     ensures values { (q : Quadrant) (first second : Chain) (list : Prices) (d : Direction) → list_num (chain_of q first second d) list ≡ pos (unsigned_abs d.s) *ℤ first_form first list +ℤ pos (unsigned_abs d.t) *ℤ second_form first second list }

@@ -1,6 +1,6 @@
-//! The unit ball in the plane of two chains: the definitions of directions with their chains and values, of fans and of the
-//! searches for them, and the laws between them. Definitions stand in `specs/`, a module per subject; each public function
-//! is a law over them. Beside these there are only the plain data that they speak of.
+//! The unit ball in the plane of two chains: the definitions of directions with their chains and values, of fans and of
+//! the searches for them, and the laws between them. Definitions stand in `specs/`, a module per subject; each public
+//! function is a law over them. Beside these there are only the plain data that they speak of.
 #![tactic(auto)]
 
 pub mod cones;

@@ -27,8 +27,8 @@ pub fn next_direction_is_between()
     ensures one { (q : Quadrant) (first second : Chain) (r u : Reached) (x y : Direction) → IsChain first → IsChain second → IsGap q first second r u → IsNext q first second r u x → IsNext q first second r u y → x ≡ y }
 {}
 
-/// The entries of a search are primitive directions of its quadrant, from its one end to the other, each to the left of the
-/// one before, with lists that cover the quadrant's chain and are tight there.
+/// The entries of a search are primitive directions of its quadrant, from its one end to the other, each to the left of
+/// the one before, with lists that cover the quadrant's chain and are tight there.
 pub fn searches_go_round()
     ensures row { (q : Quadrant) (first second : Chain) (rs : List Reached) → IsChain first → IsChain second → IsSearch q first second rs → IsRow q first second rs }
     ensures gaps { (q : Quadrant) (first second : Chain) (rs : List Reached) (i : ℕ) → IsRow q first second rs → suc i < length rs → IsOpen q first second (reached rs i) (reached rs (suc i)) → IsGap q first second (reached rs i) (reached rs (suc i)) }
@@ -39,15 +39,15 @@ pub fn searches_grow()
     ensures { (q : Quadrant) (first second : Chain) (rs : List Reached) (i : ℕ) (x : Reached) → IsSearch q first second rs → suc i < length rs → IsOpen q first second (reached rs i) (reached rs (suc i)) → IsNext q first second (reached rs i) (reached rs (suc i)) x.direction → IsReached q first second x → IsSearch q first second (insert rs (suc i) x) }
 {}
 
-/// Two lists have one value at a direction exactly where what they gain along the two chains balances; for open neighbours
-/// the two gaps are both above 0 or both below.
+/// Two lists have one value at a direction exactly where what they gain along the two chains balances; for open
+/// neighbours the two gaps are both above 0 or both below.
 pub fn crossing_by_forms()
     ensures same { (q : Quadrant) (first second : Chain) (l m : Prices) (d : Direction) → SameValueAt q first second l m d ↔ (pos (unsigned_abs d.s) *ℤ first_gap first l m ≡ pos (unsigned_abs d.t) *ℤ second_gap first second l m) }
     ensures one_sign { (q : Quadrant) (first second : Chain) (r u : Reached) → IsChain first → IsChain second → IsGap q first second r u → pos 0 <ℤ (first_gap first r.list u.list *ℤ second_gap first second r.list u.list) }
 {}
 
-/// Open neighbours are there only where both chains have a weighted length above 0. Then the coordinates of a direction are
-/// at most the weighted length of its chain.
+/// Open neighbours are there only where both chains have a weighted length above 0. Then the coordinates of a direction
+/// are at most the weighted length of its chain.
 pub fn open_neighbours_have_length()
     ensures first { (q : Quadrant) (first second : Chain) (r u : Reached) → IsChain first → IsChain second → IsGap q first second r u → 0 < weighted_length first }
     ensures second { (q : Quadrant) (first second : Chain) (r u : Reached) → IsChain first → IsChain second → IsGap q first second r u → 0 < weighted_length second }

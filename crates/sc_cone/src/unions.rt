@@ -28,8 +28,8 @@ pub fn tight_on_the_cone()
     ensures inside { (q : Quadrant) (d e x : Direction) → IsIn q d → IsIn q e → TurnsLeft d e → IsBetween d e x → IsIn q x }
 {}
 
-/// Two lists that have one value at two directions have one value at each direction beyond: so where both are tight at two
-/// directions, each is tight beyond wherever the other is.
+/// Two lists that have one value at two directions have one value at each direction beyond: so where both are tight at
+/// two directions, each is tight beyond wherever the other is.
 pub fn lists_that_agree_twice()
     ensures values { (q : Quadrant) (first second : Chain) (l m : Prices) (d e x : Direction) → IsIn q d → IsIn q e → IsIn q x → TurnsLeft d e → TurnsLeft e x → TurnsLeft d x → SameValueAt q first second l m d → SameValueAt q first second l m e → SameValueAt q first second l m x }
     ensures tight { (q : Quadrant) (first second : Chain) (l m : Prices) (d e x : Direction) → IsIn q d → IsIn q e → IsIn q x → TurnsLeft d e → TurnsLeft e x → TurnsLeft d x → IsTightAt q first second l d → IsTightAt q first second l e → IsTightAt q first second m d → IsTightAt q first second m e → IsTightAt q first second m x → IsTightAt q first second l x }

@@ -156,8 +156,8 @@ fn read_text(alloc: Global, bytes: &[u8]) -> Result<Fan, TextFault>
 }
 
 impl Fan {
-    /// The fan whose text the bytes are, of which there are fewer than 2^31; whether it is true nothing says. A fault is
-    /// the first line, counted from 1, that isn't as it is due, with the first kind that applies to it.
+    /// The fan whose text the bytes are, of which there are fewer than 2^31; whether it is true nothing says. A fault
+    /// is the first line, counted from 1, that isn't as it is due, with the first kind that applies to it.
     pub fn read(alloc: Global, bytes: &[u8]) -> Result<Fan, TextFault>
         requires { length bytes.now < 2 ^ 31 }
 

@@ -1,4 +1,5 @@
--- The whole-number operations of fraction arithmetic, in their order. Where one leads out of 128 bits, the first such is the evidence of the refusal.
+-- The whole-number operations of fraction arithmetic, in their order. Where one leads out of 128 bits, the first such
+-- is the evidence of the refusal.
 use Rattle.std.specs.Prelude.{ℕ, List, [], ◌∷◌, ◌++◌, ℤ, pos, neg_ℤ, ◌*ℤ◌, int_div, int_lt, unsigned_abs, if◌then◌else◌}
 use Rattle.std.specs.Int.{IsGcd}
 use Rattle.sc_whole.specs.declared.checked.Op.{Op}
@@ -14,7 +15,8 @@ turn q z = if int_lt q (pos 0) then neg_ℤ z else z
 abbrev pub turn_steps : (p q : ℤ) → List Wide
 turn_steps p q = if int_lt q (pos 0) then step Sub (pos 0) p ∷ step Sub (pos 0) q ∷ [] else []
 
--- num/den in lowest terms, with a denominator above 0: both are divided by their greatest common divisor g, and then turned
+-- num/den in lowest terms, with a denominator above 0: both are divided by their greatest common divisor g, and then
+-- turned
 abbrev pub reduce_steps : (num den : ℤ) (g : ℕ) → List Wide
 reduce_steps num den g = turn_steps (int_div num (pos g)) (int_div den (pos g))
 
@@ -23,7 +25,8 @@ abbrev pub scaled_sum_steps : Op → (a b c scale other_scale : ℤ) → List Wi
 scaled_sum_steps op a b c scale other_scale =
     step Mul a scale ∷ step Mul c other_scale ∷ step op (a *ℤ scale) (c *ℤ other_scale) ∷ step Mul b scale ∷ []
 
--- the sum or difference of a/b and c/e over their least common denominator, where g is the greatest common divisor of b and e
+-- the sum or difference of a/b and c/e over their least common denominator, where g is the greatest common divisor of b
+-- and e
 abbrev pub sum_steps : Op → (a b c e : ℤ) (g : ℕ) → List Wide
 sum_steps op a b c e g = scaled_sum_steps op a b c (int_div e (pos g)) (int_div b (pos g))
 
@@ -31,7 +34,8 @@ sum_steps op a b c e g = scaled_sum_steps op a b c (int_div e (pos g)) (int_div 
 abbrev pub product_steps : (a b c e : ℤ) (g h : ℕ) → List Wide
 product_steps a b c e g h = step Mul (int_div a (pos g)) (int_div c (pos h)) ∷ step Mul (int_div b (pos h)) (int_div e (pos g)) ∷ []
 
--- the ratio of a/b and c/e: e/c is turned so that its denominator is above 0, and a/b is multiplied with it; g is the greatest common divisor of a and c, and h that of e and b
+-- the ratio of a/b and c/e: e/c is turned so that its denominator is above 0, and a/b is multiplied with it; g is the
+-- greatest common divisor of a and c, and h that of e and b
 abbrev pub ratio_steps : (a b c e : ℤ) (g h : ℕ) → List Wide
 ratio_steps a b c e g h = turn_steps e c ++ product_steps a b (turn c e) (turn c c) g h
 

@@ -1,4 +1,5 @@
--- Places of kinds matched in their order are sides of steps matched in theirs: what the lists come to is the glued surface.
+-- Places of kinds matched in their order are sides of steps matched in theirs: what the lists come to is the glued
+-- surface.
 use Rattle.std.proofs.Common.{◌≡◌, ℕ, ◌*◌, ◌/◌, ◌<◌, ◌≤◌, Bool, ◌&&◌, eqb, List, map, length, get_or, inl, inr, arith, sym, ap, ap₂, subst, ◌∙◌}
 use Rattle.std.proofs.Math.Bool.{and_comm}
 use Rattle.std.proofs.lemmas.Nat.{mul-add-lt, div-mul-add}

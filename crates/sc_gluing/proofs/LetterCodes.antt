@@ -1,4 +1,5 @@
--- The numbers of letters at the sides along the words: places of opposite numbers matched in their order are the sides' mates.
+-- The numbers of letters at the sides along the words: places of opposite numbers matched in their order are the sides'
+-- mates.
 use Rattle.std.proofs.Common.{◌≡◌, ℕ, ◌+◌, ◌*◌, ◌<◌, ◌≤◌, Bool, true, false, not, ◌&&◌, eqb, cond, List, map, length, get_or, inl, inr, arith, refl, sym, ap, ap₂, subst, ◌∙◌}
 use Rattle.std.proofs.lemmas.Bool.{cases_Bool, eq-eqb, ne_eqb}
 use Rattle.std.proofs.lemmas.List.{get_or-map, length-map}

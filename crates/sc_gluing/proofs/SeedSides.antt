@@ -1,5 +1,5 @@
--- The sides along the copies of the words of a balanced chain: each follows the one before it round its word, and each has one
--- mate, the side with the inverse letter that stands at the same place among those with its letter.
+-- The sides along the copies of the words of a balanced chain: each follows the one before it round its word, and each
+-- has one mate, the side with the inverse letter that stands at the same place among those with its letter.
 use Rattle.std.proofs.Common.{◌≡◌, ℕ, zero, suc, ◌+◌, ◌<◌, Bool, true, false, not, ◌&&◌, eqb, if◌then◌else◌, List, [], ◌∷◌, ◌++◌, map, length, get_or, replicate, ℤ, pos, ◌+ℤ◌, ◌-ℤ◌, ◌*ℤ◌, inl, inr, arith, refl, sym, ap, ap₂, subst, subst₂, ◌∙◌}
 use Rattle.std.specs.List.{AllByRecursion, range_with_len}
 use Rattle.std.proofs.lemmas.Int.{ints}

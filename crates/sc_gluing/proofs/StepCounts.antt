@@ -1,5 +1,5 @@
--- Closed walks whose columns come to a multiple of the right side have as many steps of each kind as of the opposite kind, and
--- pass the first position of each word as often as the copies run along it.
+-- Closed walks whose columns come to a multiple of the right side have as many steps of each kind as of the opposite
+-- kind, and pass the first position of each word as often as the copies run along it.
 use Rattle.std.proofs.Common.{◌≡◌, ℕ, suc, ◌+◌, ◌*◌, ◌<◌, Bool, true, false, not, eqb, ltb, if◌then◌else◌, List, [], ◌∷◌, ◌++◌, length, replicate, zero, ℤ, pos, ◌+ℤ◌, ◌-ℤ◌, ◌*ℤ◌, inl, inr, arith, refl, sym, ap, ap₂, ◌∙◌}
 use Rattle.std.specs.List.{AllByRecursion}
 use Rattle.std.proofs.lemmas.Int.{ints}

@@ -6,8 +6,8 @@ use Rattle.sc_algebra.specs.Sums.{count_below}
 abbrev pub so_far : List ℕ → ℕ → ℕ → ℕ
 so_far xs k s = count_below (λ t. get_or xs t 0 == k) s
 
--- for each place the partner is the place whose kind is the opposite of its own, with as many of that kind before it as there are
--- places with the same opposite before the first
+-- for each place the partner is the place whose kind is the opposite of its own, with as many of that kind before it as
+-- there are places with the same opposite before the first
 pub record ArePartners (kinds opposites partners : List ℕ) : Type 0 where
   pub as_many : length partners ≡ length kinds
   pub inside : (s : ℕ) → s < length kinds → get_or partners s 0 < length kinds

@@ -28,8 +28,8 @@ same_letter x y = (x.number == y.number) && same_sign x.inverse y.inverse
 abbrev pub letter_rank : Chain → List (List ℕ) → ℕ → ℕ
 letter_rank c cycles s = count_below (λ t. same_letter (letter c (at cycles t)) (letter c (at cycles s))) s
 
--- the sides run along the copies of the words, next goes round a copy, and the k-th side with a letter is the mate of the k-th
--- side with its inverse
+-- the sides run along the copies of the words, next goes round a copy, and the k-th side with a letter is the mate of
+-- the k-th side with its inverse
 pub record IsSeed (c : Chain) (g : Sides) : Type 0 where
   pub labels : map (λ s. s.label) g ≡ labels_of (word_cycles c)
   pub nexts : (s : ℕ) → s < length g → next g s ≡ after (word_cycles c) s

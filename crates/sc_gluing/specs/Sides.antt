@@ -1,4 +1,5 @@
--- The lists that a surface is glued with: the kinds of the steps that begin at its sides, the opposite kinds, the mates.
+-- The lists that a surface is glued with: the kinds of the steps that begin at its sides, the opposite kinds, the
+-- mates.
 use Rattle.std.specs.Prelude.{ℕ, ◌+◌, ◌*◌, List}
 use Rattle.sc_theory.specs.Chains.{Chain}
 use Rattle.sc_gluing.specs.Cycles.{AreCycles}

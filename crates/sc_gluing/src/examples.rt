@@ -6,9 +6,9 @@ ghost use Rattle.sc_gluing.specs.Cycles.{copies_of};
 ghost use Rattle.sc_gluing.specs.Gluing.{IsGlued, AreBalanced};
 ghost use Rattle.sc_gluing.specs.Seeds.{IsSeed};
 
-/// One copy of the polygon 0 3 2 1 of the commutator is glued to the torus with its sides in the order round its vertex, and
-/// one of the polygon 0 1 of two opposite words to the annulus. The torus with its sides in the order along the boundary
-/// isn't glued of that polygon: it is the seed surface.
+/// One copy of the polygon 0 3 2 1 of the commutator is glued to the torus with its sides in the order round its
+/// vertex, and one of the polygon 0 1 of two opposite words to the annulus. The torus with its sides in the order along
+/// the boundary isn't glued of that polygon: it is the seed surface.
 pub fn small_surfaces_are_glued()
     ensures balanced { AreBalanced commutator 1 ((0 ∷ 3 ∷ 2 ∷ 1 ∷ [], 1) ∷ []) }
     ensures torus { IsGlued commutator (copies_of ((0 ∷ 3 ∷ 2 ∷ 1 ∷ [], 1) ∷ [])) torus_by_steps }

@@ -11,8 +11,8 @@ ghost use Rattle.sc_gluing.specs.Cycles.{Parts, copies_of, labels_of, at, after,
 ghost use Rattle.sc_gluing.specs.Gluing.{IsGlued, AreBalanced};
 ghost use Rattle.sc_gluing.specs.Seeds.{IsSeed};
 
-/// The side after a side permutes the sides. A sum over the sides of a price of the step that begins there is the total of
-/// the cycles, and along closed walks each of these is a step.
+/// The side after a side permutes the sides. A sum over the sides of a price of the step that begins there is the total
+/// of the cycles, and along closed walks each of these is a step.
 pub fn sides_run_along_the_cycles()
     ensures permutes { (cycles : List (List ℕ)) → IsPermutation (after cycles) (length (labels_of cycles)) }
     ensures totals { (price : ℕ → ℕ → ℤ) (cycles : List (List ℕ)) → sum_below (λ s. price (at cycles s) (at cycles (after cycles s))) (length (labels_of cycles)) ≡ walks_total price cycles }
@@ -24,8 +24,8 @@ pub fn copies_are_cycles()
     ensures { (c : Chain) (n : ℕ) (parts : Parts) → AreBalanced c n parts → AreCycles c n (copies_of parts) }
 {}
 
-/// A surface that is glued of the copies of polygons whose columns come to n times the right side is a labelled fatgraph with
-/// n copies, and so is one that is glued of any closed walks whose columns do.
+/// A surface that is glued of the copies of polygons whose columns come to n times the right side is a labelled
+/// fatgraph with n copies, and so is one that is glued of any closed walks whose columns do.
 pub fn glued_surfaces_are_fatgraphs()
     ensures copies { (c : Chain) (n : ℕ) (parts : Parts) (g : Sides) → 0 < n → AreBalanced c n parts → IsGlued c (copies_of parts) g → IsFatgraph c n g }
     ensures cycles { (c : Chain) (n : ℕ) (cycles : List (List ℕ)) (g : Sides) → 0 < n → AreCycles c n cycles → IsGlued c cycles g → IsFatgraph c n g }

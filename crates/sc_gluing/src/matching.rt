@@ -1,5 +1,5 @@
-//! The matching of places whose kinds are opposite, in their order: in time and memory that grow with their number alone.
-//! The places of each kind are a linked list; a cursor a kind goes along it once.
+//! The matching of places whose kinds are opposite, in their order: in time and memory that grow with their number
+//! alone. The places of each kind are a linked list; a cursor a kind goes along it once.
 
 ghost use Rattle.std.specs.Prelude.{◌≡◌, ℕ, ◌<◌, ◌^◌, length, get_or, IfOk};
 ghost use Rattle.sc_gluing.specs.Matching.{ArePartners, AreMatchable};
@@ -23,8 +23,8 @@ fn link(kinds: &[u32], firsts: &mut [u32], following: &mut [u32])
     }
 }
 
-/// Pairs the places up: the partner of each is the place of the opposite kind at which that kind's cursor stands, and the
-/// cursor goes on.
+/// Pairs the places up: the partner of each is the place of the opposite kind at which that kind's cursor stands, and
+/// the cursor goes on.
 fn pair_up(
     alloc: Global,
     kinds: &[u32],

@@ -1,5 +1,5 @@
-//! Texts by lines: the fields of a line and the numbers in them, the fault of a line and the first fault of a text; parts
-//! of texts, which are read and printed line by line, and the reader of a whole text.
+//! Texts by lines: the fields of a line and the numbers in them, the fault of a line and the first fault of a text;
+//! parts of texts, which are read and printed line by line, and the reader of a whole text.
 #![tactic(auto)]
 
 mod counted;

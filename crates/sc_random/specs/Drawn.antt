@@ -23,7 +23,8 @@ drawn_letters =
     ∷ record { number = 1; inverse = true }
     ∷ []
 
--- those that may stand behind a letter, in the same order: all but its inverse. At the beginning of a word any may stand
+-- those that may stand behind a letter, in the same order: all but its inverse. At the beginning of a word any may
+-- stand
 abbrev pub letters_behind : Option Letter → List Letter
 letters_behind None = drawn_letters
 letters_behind (Some x) = filter (λ y. not (is_inverse x y)) drawn_letters

@@ -38,8 +38,8 @@ fn drawn_lines(alloc: Global, seed: u64, letters: u32) -> Result<Vec<RawLine>, A
     Ok(lines)
 }
 
-/// The chain of two commutators of words of so many letters, at most `limits::MAX_LETTERS`, that are drawn by a seed. The letters are `a`, `b`
-/// and their inverses, and no two neighbours in a drawn word are inverse.
+/// The chain of two commutators of words of so many letters, at most `limits::MAX_LETTERS`, that are drawn by a seed.
+/// The letters are `a`, `b` and their inverses, and no two neighbours in a drawn word are inverse.
 pub fn drawn_chain(alloc: Global, seed: u64, letters: u32) -> Result<Chain, AllocError>
     requires { letters ≤ MAX_LETTERS }
     ensures chain { IfOk result (λ c. c ≡ drawn.drawn_chain seed letters) }

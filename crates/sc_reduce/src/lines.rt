@@ -44,8 +44,8 @@ fn weighted_words(alloc: Global, lines: &[RawLine]) -> Result<Vec<(u32, Word)>, 
     Ok(words)
 }
 
-/// The chain of the lines: each line's word is cyclically reduced. A line with the coefficient 0 or with nothing left of
-/// its word is dropped, a negative coefficient takes the inverse word, and the coefficient's size is the weight.
+/// The chain of the lines: each line's word is cyclically reduced. A line with the coefficient 0 or with nothing left
+/// of its word is dropped, a negative coefficient takes the inverse word, and the coefficient's size is the weight.
 pub fn reduce_lines(alloc: Global, raw: &[RawLine]) -> Result<Chain, ChainFault>
     requires ranges { All IsRawLine raw.now }
     requires letters { letters_of raw.now < 2 ^ 32 }

@@ -22,8 +22,8 @@ walk_line name walk = spaced (name ∷ map (λ i. spelling (pos i)) walk)
 abbrev pub number_line : Field → ℤ → Line
 number_line name z = numbers_line name (z ∷ [])
 
--- ---- what every refusal's text has: its heading, and its body with the chain and the journal, the lines of its cause, and the
--- end
+-- ---- what every refusal's text has: its heading, and its body with the chain and the journal, the lines of its cause,
+-- and the end
 abbrev pub solved_lines : Chain → List Pivot → List Line
 solved_lines c journal = words_lines c ++ journal_lines journal
 

@@ -17,8 +17,8 @@ const VALUE_MENDINGS: u32 = 2;
 /// The bits to which the factors of entries of the inverse are cut, so that their products fit 64 bits.
 const FACTOR_BITS: u32 = 18;
 
-/// The entry from which on, in size, a column can take a row when the inverse is built anew, with `PRICE_BITS` bits behind
-/// the point.
+/// The entry from which on, in size, a column can take a row when the inverse is built anew, with `PRICE_BITS` bits
+/// behind the point.
 const LEAST_REBUILT: u64 = 1 << 16;
 
 /// How much an item is worth beyond what it costs at these prices: 0 but for rounding.
@@ -74,8 +74,8 @@ impl Basis {
             .collect(alloc)
     }
 
-    /// Adds to the prices what the inverse makes of numbers for the items, none of which is greater in size than this. The
-    /// numbers are cut to `FACTOR_BITS`: what that leaves is mended next.
+    /// Adds to the prices what the inverse makes of numbers for the items, none of which is greater in size than this.
+    /// The numbers are cut to `FACTOR_BITS`: what that leaves is mended next.
     fn add_to_prices(&mut self, mut numbers: Vec<i64>, size: u64) {
         let shift = excess_bits(size, FACTOR_BITS);
         for number in numbers.iter_mut() {

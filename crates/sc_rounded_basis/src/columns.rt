@@ -23,8 +23,8 @@ pub struct Column {
     pub(crate) worth: i64,
     /// By how much it is worth more than it costs at the prices.
     pub excess: i64,
-    /// How its excess compares with that of others: an estimate of the square of its length, with `WEIGHT_BITS` bits behind
-    /// the point.
+    /// How its excess compares with that of others: an estimate of the square of its length, with `WEIGHT_BITS` bits
+    /// behind the point.
     pub(crate) weight: i64,
     /// Whether it is an item of the basis.
     pub is_basic: bool,

@@ -1,5 +1,5 @@
-//! The inverse after an exchange: the only part of the search whose time counts. Some exchanges are held back and then made
-//! list by list, so that each list is fetched from memory once for all of them.
+//! The inverse after an exchange: the only part of the search whose time counts. Some exchanges are held back and then
+//! made list by list, so that each list is fetched from memory once for all of them.
 
 use crate::basis::Basis;
 use crate::fixed::{PRICE_BITS, narrowing, quotient};
@@ -162,8 +162,8 @@ impl Basis {
         self.held.clear();
     }
 
-    /// Puts the column that was looked at in the place of the leaving row's item, in the inverse alone. The row's entries are
-    /// handed in.
+    /// Puts the column that was looked at in the place of the leaving row's item, in the inverse alone. The row's
+    /// entries are handed in.
     pub(crate) fn eliminate(
         &mut self,
         alloc: Global,

@@ -1,5 +1,5 @@
-//! Numbers of fixed point. Sums and products that don't fit 64 bits are cut to the nearest number that does, or wrap in the
-//! loops over the inverse, whose time counts: such a number makes worse advice and nothing else.
+//! Numbers of fixed point. Sums and products that don't fit 64 bits are cut to the nearest number that does, or wrap in
+//! the loops over the inverse, whose time counts: such a number makes worse advice and nothing else.
 
 /// The bits behind the point of prices, costs, excesses and of the entries of the inverse.
 pub const PRICE_BITS: u32 = 32;

@@ -9,8 +9,8 @@ use std::alloc::{AllocError, Global};
 /// By how many bits the gain of an exchange is divided whose pivot is small.
 const SMALL_PIVOT_BITS: u32 = 3;
 
-/// The greatest ratio of an entry of the leaving row to the pivot that weights take in, with `WEIGHT_BITS` bits behind the
-/// point.
+/// The greatest ratio of an entry of the leaving row to the pivot that weights take in, with `WEIGHT_BITS` bits behind
+/// the point.
 const MAX_RATIO: i64 = 1 << 30;
 
 /// The greatest weight.
@@ -120,8 +120,8 @@ fn exchange_of(
     })
 }
 
-/// The column that can take the place of an item of negative value, whose row this is: the one that grows least too dear for
-/// it, so that no column comes to be worth more than it costs.
+/// The column that can take the place of an item of negative value, whose row this is: the one that grows least too
+/// dear for it, so that no column comes to be worth more than it costs.
 fn replacement(columns: &[Column], row: &[i64], least_pivot: i64) -> Option<usize> {
     let mut best = None;
     let (mut least_excess, mut least_entry) = (-1, 0);

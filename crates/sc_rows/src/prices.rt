@@ -26,7 +26,8 @@ pub struct PriceRow {
     pub scale: i128,
 }
 
-/// The prices of both levels. The price of a unit column in bulk is -1 and of every other item 0; in fine they are 0 and 1.
+/// The prices of both levels. The price of a unit column in bulk is -1 and of every other item 0; in fine they are 0
+/// and 1.
 #[derive(Debug, Drop)]
 pub struct PriceRows {
     /// The bulk prices.

@@ -17,8 +17,8 @@ use crate::{RowFault, WideAt};
 use std::alloc::{AllocError, Global};
 use std::marker::Model;
 
-/// The rows of the inverse of a basis: for each item a list of whole numbers over a positive denominator, with no common
-/// divisor. A row's product with its own item is 1, and with every other item 0.
+/// The rows of the inverse of a basis: for each item a list of whole numbers over a positive denominator, with no
+/// common divisor. A row's product with its own item is 1, and with every other item 0.
 #[derive(Debug, Drop)]
 pub struct RowSet {
     rows: Vec<Quotients>,
@@ -79,7 +79,8 @@ fn left_of(
     over(alloc, own.entries.as_slice(), product)
 }
 
-/// The new row in place of row `index`, or none where the old one serves: at the leaving row, and where the product is 0.
+/// The new row in place of row `index`, or none where the old one serves: at the leaving row, and where the product is
+/// 0.
 fn fresh_row(
     alloc: Global,
     rows: &[Quotients],
@@ -208,7 +209,8 @@ impl RowSet {
         Ok(along)
     }
 
-    /// The product of a row's numerators with the right side. Over the row's denominator it is the value of the row's item.
+    /// The product of a row's numerators with the right side. Over the row's denominator it is the value of the row's
+    /// item.
     pub fn value(&self, row: usize, rhs: &Vec<i128>) -> Result<i128, WideAt>
         requires few { length self.now < 2 ^ 32 }
         requires inside { row < length self.now }

@@ -296,8 +296,8 @@ fn each_place_is_named_with_its_operands(rt: HostRuntime) {
     }
 }
 
-// What two rows and their prices hold after one pivot: of each row the entries and the denominator, then the same of the bulk
-// and the fine prices.
+// What two rows and their prices hold after one pivot: of each row the entries and the denominator, then the same of
+// the bulk and the fine prices.
 fn held_after(alloc: Global, first: Step) -> Result<[[i128; 3]; 4], RowFault> {
     let mut rows = RowSet::start(alloc, 2)?;
     let mut prices = PriceRows::start(alloc, 2)?;

@@ -21,8 +21,8 @@ RisesAlong r b ps =
     (m n : ℕ) (t t' : BasisNumbers) → m < n → n ≤ length ps
     → Stands r (basis_after (unit_basis r) (take m ps)) t → Stands r (basis_after (unit_basis r) (take n ps)) t' → Rises r b t t'
 
--- the pivots that a journal names: lawful pivots of columns that there are, from the basis of the unit columns. Their rise
--- value grows
+-- the pivots that a journal names: lawful pivots of columns that there are, from the basis of the unit columns. Their
+-- rise value grows
 pub record IsLawfulBy (C : ColumnsBy) (r : ℕ) (b : ℕ → ℤ) (journal : List KeyPivot) (ps : Journal) : Type 0 where
   pub named : AreNamed C journal ps
   pub lawful : IsJournal r b ps

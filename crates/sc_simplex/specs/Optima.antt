@@ -44,7 +44,8 @@ pub record AreItems (C : ColumnsBy) (r : ℕ) (ps : Journal) (journal : List Key
   pub keys : map key_of columns ≡ first_seen (map pivot_key journal)
 
 -- ---- values
--- the value of each item is its row's product with b over the row's denominator. None is negative, and that of a unit is 0
+-- the value of each item is its row's product with b over the row's denominator. None is negative, and that of a unit
+-- is 0
 pub record AreValues (r : ℕ) (b : ℕ → ℤ) (ps : Journal) (t : BasisNumbers) (list : List Frac) : Type 0 where
   pub size : length list ≡ r
   pub values : (i : ℕ) (f : Frac) → slice_get list i ≡ Some f → IsQuotient (value r b t i) (t.denominator i) f

@@ -87,8 +87,8 @@ IsEnteringTold C None (Some c) = ⊥
 IsEnteringTold C (Some key) None = ⊥
 IsEnteringTold C (Some key) (Some c) = C key c
 
--- after the journal the operation at this place has these operands. Where a column enters, there was still budget left for its
--- pivot
+-- after the journal the operation at this place has these operands. Where a column enters, there was still budget left
+-- for its pivot
 pub record IsWideOperation (C : ColumnsBy) (r : ℕ) (b : ℕ → ℤ) (budget used : ℕ) (ps : Journal) (at : WideAt) : Type 0 where
   pub place : Place
   pub tells : TellsPlace place at

@@ -1,5 +1,5 @@
-//! The row that leaves: of those with a positive product with the entering column, the one whose list over that product is
-//! least. The list is the row's product with the right side, followed by its entries.
+//! The row that leaves: of those with a positive product with the entering column, the one whose list over that product
+//! is least. The list is the row's product with the right side, followed by its entries.
 
 ghost use Rattle.std.specs.Prelude.{◌≡◌, ◌<◌, ◌+◌, ◌^◌, suc, length, Some, pos, ◌*ℤ◌, ◌<ℤ◌, IfOk, IfErr};
 ghost use Rattle.sc_basis.specs.Products.{at, dot};

@@ -22,8 +22,8 @@ pub enum OracleFault {
     Memory,
 }
 
-/// What finds a column that improves a basis, among columns that may be too many to be listed. It may change its own state
-/// at each call, as an order in which it looks; what its ghost members say stays.
+/// What finds a column that improves a basis, among columns that may be too many to be listed. It may change its own
+/// state at each call, as an order in which it looks; what its ghost members say stays.
 pub trait Oracle {
     ghost use Rattle.std.specs.Prelude.{◌≡◌, ◌↔◌, ℕ, ℤ, List, pos, ◌≤ℤ◌, IfOk, IfErr};
     ghost use Rattle.sc_basis.specs.Products.{dot};

@@ -15,8 +15,8 @@ use Rattle.sc_tables.proofs.Polygons.{polygons_decide}
 use Rattle.sc_tables.proofs.ShortWalks.{short_suffices}
 use Rattle.sc_tables.proofs.LeastTotals.{closed_total-back, vouches}
 
--- the entries are totals of walks from s that don't come back; none of such walks of fewer steps than there are positions
--- has less, and none of them comes back to s by a further step for less than the threshold
+-- the entries are totals of walks from s that don't come back; none of such walks of fewer steps than there are
+-- positions has less, and none of them comes back to s by a further step for less than the threshold
 pub record IsSearched (c : Chain) (price : ℕ → ℕ → Levels) (threshold : Levels) (s : ℕ) (table : ℕ → Option Levels) : Type 0 where
   pub sound : (j : ℕ) (a : Levels) → j < positions c → table j ≡ Some a → (js : List ℕ) × LeadsTo c s j js × (open_total price s js ≡ a)
   pub under_each : (j : ℕ) (js : List ℕ) → LeadsTo c s j js → length js < positions c →

@@ -20,8 +20,8 @@ use Rattle.sc_tables.specs.declared.tables.TableFault.TheVariants.{Wide, Memory}
 abbrev pub entry_in : {W : Type 0} → (W → Levels) → Square W → ℕ → ℕ → Option Levels
 entry_in levels tables s j = option_map levels (cell tables s j)
 
--- a walk of at most as many steps as there are positions: the operands are the total without its last step, and the price of
--- that step, at the first level, bulk before fine, at which their exact sum is too wide
+-- a walk of at most as many steps as there are positions: the operands are the total without its last step, and the
+-- price of that step, at the first level, bulk before fine, at which their exact sum is too wide
 pub record IsWideWalk (c : Chain) (price : ℕ → ℕ → Levels) (walk : List ℕ) (level : Level) (wide : Operation) : Type 0 where
   pub start : ℕ
   pub front : List ℕ

@@ -9,7 +9,8 @@ use Rattle.sc_theory.specs.Walks.{IsStep}
 use Rattle.sc_theory.specs.Prices.{Prices, pair_price, base_price, price}
 use Rattle.sc_tables.specs.Squares.{Square, cell, level_of}
 
--- the numbers of two-level pair and base prices at a level, as a price list (a scale plays no part in the price of a step)
+-- the numbers of two-level pair and base prices at a level, as a price list (a scale plays no part in the price of a
+-- step)
 abbrev pub list_at : {W : Type 0} → (W → Levels) → List W → List W → Level → Prices
 list_at levels pair base level =
     record { scale = pos 1; base = map (λ w. at_level level (levels w)) base; pair = map (λ w. at_level level (levels w)) pair }

@@ -1,5 +1,5 @@
-//! Cheap polygons without a promise that there is one: among polygons that are known, and by the searches from the greatest
-//! start down.
+//! Cheap polygons without a promise that there is one: among polygons that are known, and by the searches from the
+//! greatest start down.
 
 ghost use Rattle.std.specs.Prelude.{◌≡◌, ◌<◌, ◌≤◌, [], length, get_or, IsTrue, IfOk, IfErr, IfSome};
 ghost use Rattle.std.specs.List.{AllByRecursion};
@@ -38,7 +38,8 @@ fn is_cheap<W: Weight>(
     }
 }
 
-/// The place of the first of these polygons that is below the threshold; those with a total that is too wide are passed over.
+/// The place of the first of these polygons that is below the threshold; those with a total that is too wide are passed
+/// over.
 pub fn first_cheap<W: Weight>(
     alloc: Global,
     chain: &Chain,

@@ -7,14 +7,14 @@ ghost use Rattle.sc_tables.specs.Walks.{LeadsTo};
 ghost use Rattle.sc_tables.specs.Totals.{open_total, IsBelow, IsAtMost};
 ghost use Rattle.sc_tables.specs.Tables.{AllAtLeast, IsPolygonBelow, AreLeastTotals, VouchFor};
 
-/// A closed walk whose total is below a threshold above 0 contains a polygon whose total is below it: where no polygon is
-/// below the threshold, no closed walk is.
+/// A closed walk whose total is below a threshold above 0 contains a polygon whose total is below it: where no polygon
+/// is below the threshold, no closed walk is.
 pub fn closed_walks_contain_polygons()
     ensures { (c : Chain) (price : ℕ → ℕ → Levels) (threshold : Levels) → IsBelow zero_levels threshold → ((walk : List ℕ) → ¬ IsPolygonBelow c price threshold walk) → AllAtLeast c price threshold }
 {}
 
-/// Walks of fewer steps than there are positions suffice where no closed walk is negative: each walk that doesn't come back
-/// to its start has such a short one to the same end, whose total is at most its own.
+/// Walks of fewer steps than there are positions suffice where no closed walk is negative: each walk that doesn't come
+/// back to its start has such a short one to the same end, whose total is at most its own.
 pub fn short_walks_suffice()
     ensures { (c : Chain) (price : ℕ → ℕ → Levels) → AllAtLeast c price zero_levels → (s j : ℕ) (js : List ℕ) → s < positions c → LeadsTo c s j js → (ks : List ℕ) × (LeadsTo c s j ks × (length ks < positions c) × IsAtMost (open_total price s ks) (open_total price s js)) }
 {}

@@ -146,8 +146,8 @@ impl<W: Weight> StepPrices<W> {
     ghost use Rattle.sc_tables.specs.Squares.{cell};
     ghost use Rattle.sc_tables.specs.StepPrices.{HasStep};
 
-    /// The prices of a chain's steps from those of its inverse pairs and of its words: the price of the pair of the next
-    /// position and the one that the step leads to, plus the base price there.
+    /// The prices of a chain's steps from those of its inverse pairs and of its words: the price of the pair of the
+    /// next position and the one that the step leads to, plus the base price there.
     pub fn build(
         alloc: Global,
         chain: &Chain,

@@ -11,7 +11,8 @@ use crate::prices::StepPrices;
 use sc_weight::{Weight, WideLevel};
 use std::alloc::{AllocError, AllocFailed};
 
-/// A walk from the start of a search: its last position, the walk up to there, how many steps it has at most, and its total.
+/// A walk from the start of a search: its last position, the walk up to there, how many steps it has at most, and its
+/// total.
 #[derive(Clone, Copy, Debug)]
 pub(crate) struct Node<W> {
     pub(crate) place: usize,
@@ -147,7 +148,8 @@ fn best_into<W: Weight>(
     Ok(best)
 }
 
-/// The number of the cheapest new walk that a step takes back to the start for less than the threshold, if there is one.
+/// The number of the cheapest new walk that a step takes back to the start for less than the threshold, if there is
+/// one.
 pub(crate) fn closing<W: Weight>(
     nodes: &[Node<W>],
     prices: &StepPrices<W>,

@@ -28,8 +28,8 @@ use std::marker::Model;
 /// Why there are neither a polygon nor tables.
 #[derive(Debug, Drop)]
 pub enum TableFault {
-    /// The total of this walk is too wide at this level. The operands are the total without the walk's last step, and the
-    /// price of that step.
+    /// The total of this walk is too wide at this level. The operands are the total without the walk's last step, and
+    /// the price of that step.
     Wide {
         walk: Vec<u32>,
         level: Level,
@@ -61,7 +61,8 @@ impl<T: Drop> From<AllocFailed<T>> for TableFault {
     }
 }
 
-/// The least total of a walk from each position to each that doesn't come back to its start, where there is such a walk.
+/// The least total of a walk from each position to each that doesn't come back to its start, where there is such a
+/// walk.
 #[derive(Debug, Drop)]
 pub struct Distances<W> {
     side: usize,
@@ -85,8 +86,8 @@ impl<W> Model for Distances<W> {
 impl<W: Weight> Distances<W> {
     ghost use Rattle.sc_tables.specs.Squares.{cell};
 
-    /// The least total of a walk from the start to the place that doesn't come back to the start, and none where there is
-    /// no such walk.
+    /// The least total of a walk from the start to the place that doesn't come back to the start, and none where there
+    /// is no such walk.
     pub fn at(&self, start: u32, place: u32) -> Option<W>
         requires start { start < self.now.side }
         requires place { place < self.now.side }
@@ -261,8 +262,8 @@ pub(crate) fn cheap_of<W: Weight>(
     }
 }
 
-/// A polygon whose total is below the threshold, or the tables of the least totals, which vouch that every closed walk has
-/// a total of at least the threshold.
+/// A polygon whose total is below the threshold, or the tables of the least totals, which vouch that every closed walk
+/// has a total of at least the threshold.
 pub fn cheap_polygon<W: Weight>(
     alloc: Global,
     chain: &Chain,

@@ -1,5 +1,5 @@
-//! What the texts of surfaces, certificates and fans share: words, sides, values, price lists and distance tables, and the
-//! limits that a text takes. The surface text stands here whole.
+//! What the texts of surfaces, certificates and fans share: words, sides, values, price lists and distance tables, and
+//! the limits that a text takes. The surface text stands here whole.
 #![tactic(auto)]
 
 mod chains;

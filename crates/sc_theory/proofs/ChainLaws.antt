@@ -1,4 +1,5 @@
--- Positions of a chain: each lies in one word, at one place of it, and the next and the previous position are inverse to one another.
+-- Positions of a chain: each lies in one word, at one place of it, and the next and the previous position are inverse
+-- to one another.
 use Rattle.std.proofs.Common.{◌≡◌, ℕ, zero, suc, pred, ◌+◌, ◌-◌, ◌<◌, ◌≤◌, eqb, cond, [], ◌∷◌, length, get_or, take, inl, inr, arith, refl, sym, ap, subst, ◌∙◌}
 use Rattle.std.specs.List.{flat_map}
 use Rattle.std.proofs.lemmas.List.{get_or-append-add, get_or_append_left}

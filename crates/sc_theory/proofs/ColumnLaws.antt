@@ -1,5 +1,5 @@
--- The length row: a step from i to j adds 1 and moves from the place of i in its word to that of j, so a closed walk comes to
--- its number of steps.
+-- The length row: a step from i to j adds 1 and moves from the place of i in its word to that of j, so a closed walk
+-- comes to its number of steps.
 use Rattle.std.proofs.Common.{◌≡◌, ◌≢◌, ℕ, suc, ◌+◌, ◌-◌, ◌<◌, ◌≤◌, Bool, true, false, ◌&&◌, eqb, ltb, cond, if◌then◌else◌, List, map, length, get_or, ℤ, pos, ◌+ℤ◌, ◌-ℤ◌, ◌*ℤ◌, inl, inr, arith, refl, sym, ap, ◌∙◌}
 use Rattle.std.specs.List.{filter}
 use Rattle.std.proofs.lemmas.Int.{ints}

@@ -1,6 +1,6 @@
--- A price list that covers a chain bounds the vertices of each labelled fatgraph over it: the prices of all turns are summed.
--- Round each vertex the turns are a closed walk, so the sum is at least the scale for each vertex. The prices of the pairs
--- cancel between a side and its mate, and the base prices count the copies of each word.
+-- A price list that covers a chain bounds the vertices of each labelled fatgraph over it: the prices of all turns are
+-- summed. Round each vertex the turns are a closed walk, so the sum is at least the scale for each vertex. The prices
+-- of the pairs cancel between a side and its mate, and the base prices count the copies of each word.
 use Rattle.std.proofs.Common.{◌≡◌, ◌≢◌, ℕ, suc, ◌+◌, ◌<◌, eqb, ltb, cond, [], ◌∷◌, length, get_or, ℤ, pos, ◌+ℤ◌, ◌*ℤ◌, ◌≤ℤ◌, neg_ℤ, inl, inr, arith, refl, sym, ap, subst, ◌∙◌}
 use Rattle.std.proofs.lemmas.Int.{ints}
 use Rattle.std.proofs.lemmas.Bool.{cases_order, lt-ltb, le-ltb, eq-eqb, ne_eqb, cond-true, cond-false}

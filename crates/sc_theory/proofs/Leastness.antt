@@ -1,5 +1,5 @@
--- Two labelled fatgraphs over one chain have edges in the ratio of their copies, so the one with more vertices a copy costs
--- less a copy.
+-- Two labelled fatgraphs over one chain have edges in the ratio of their copies, so the one with more vertices a copy
+-- costs less a copy.
 use Rattle.std.proofs.Common.{◌≡◌, ℕ, ◌*◌, ◌≤◌, ℤ, pos, negsuc, ◌-ℤ◌, ◌*ℤ◌, ◌≤ℤ◌, ◌<ℤ◌, arith, sym, ap, subst, ◌∙◌}
 use Rattle.std.proofs.lemmas.Int.{ints}
 use Rattle.sc_algebra.proofs.Ints.{mul_comm, mul_assoc, mul_left_comm, sub_mul, pos-mul, mul-le_right, cancel_le, le-pos}

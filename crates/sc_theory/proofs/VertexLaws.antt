@@ -1,4 +1,5 @@
--- Vertices and edges: the test for a vertex speaks of all iterates, the sides are even, and no fatgraph has more vertices than edges.
+-- Vertices and edges: the test for a vertex speaks of all iterates, the sides are even, and no fatgraph has more
+-- vertices than edges.
 use Rattle.std.proofs.Common.{◌≡◌, ℕ, zero, suc, ◌*◌, ◌/◌, ◌<◌, ◌≤◌, length, ℤ, pos, ◌-ℤ◌, ◌*ℤ◌, ◌≤ℤ◌, IsTrue, ◌↔◌, arith, subst}
 use Rattle.std.proofs.lemmas.Int.{ints}
 use Rattle.std.specs.Fn.{iterate}

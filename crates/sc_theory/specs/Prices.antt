@@ -64,8 +64,8 @@ Tables = List (List (Option ℤ))
 abbrev pub entry : Tables → ℕ → ℕ → Option ℤ
 entry tables s i = get_or (get_or tables s []) i None
 
--- the tables vouch for a threshold: each starts at 0, no step undercuts it, and none comes back for less than the threshold.
--- What is added up may be whole numbers or pairs of them: it is given by a zero, a sum and an order
+-- the tables vouch for a threshold: each starts at 0, no step undercuts it, and none comes back for less than the
+-- threshold. What is added up may be whole numbers or pairs of them: it is given by a zero, a sum and an order
 pub record VouchBy {A : Type 0} (zero : A) (sum : A → A → A) (AtMost : A → A → Type 0) (c : Chain) (price : ℕ → ℕ → A) (threshold : A) (entry : ℕ → ℕ → Option A) : Type 0 where
   pub starts : (s : ℕ) → s < positions c → entry s s ≡ Some zero
   pub goes : (s i j : ℕ) (a : A) → s < positions c → IsStep c i j → entry s i ≡ Some a → j ≢ s →

@@ -1,5 +1,5 @@
-//! The definitions at small examples, which tell them from near misses: vertices are no boundaries, sides are counted word
-//! by word, and tables answer for the steps back into their start.
+//! The definitions at small examples, which tell them from near misses: vertices are no boundaries, sides are counted
+//! word by word, and tables answer for the steps back into their start.
 
 ghost use Rattle.std.specs.Prelude.{◌≡◌, ℕ, ◌*◌, ◌<◌, List, [], ◌∷◌, map, length, Some, pos, negsuc, ◌+ℤ◌, ◌≤ℤ◌, ◌↔◌};
 ghost use Rattle.sc_algebra.specs.Sums.{count_below};
@@ -59,8 +59,9 @@ pub fn annulus_list()
     ensures least { IsLeast opposite_words 1 annulus }
 {}
 
-/// The columns of the walk 0 3 2 1 of the commutator, in the rows of its two pairs and of its word, and of the walk 0 1 of
-/// the two opposite words, in the rows of their pair and of the words; with the right sides, which are the words' weights.
+/// The columns of the walk 0 3 2 1 of the commutator, in the rows of its two pairs and of its word, and of the walk 0 1
+/// of the two opposite words, in the rows of their pair and of the words; with the right sides, which are the words'
+/// weights.
 pub fn columns_of_walks()
     ensures rows { rows commutator ≡ 3 }
     ensures commutator { map (column commutator (0 ∷ 3 ∷ 2 ∷ 1 ∷ [])) (0 ∷ 1 ∷ 2 ∷ []) ≡ pos 0 ∷ pos 0 ∷ pos 1 ∷ [] }

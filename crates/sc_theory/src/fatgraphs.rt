@@ -17,8 +17,8 @@ pub fn copies_count_the_sides()
     ensures balanced { (c : Chain) (n : ℕ) (g : Sides) → IsFatgraph c n g → IsBalanced c }
 {}
 
-/// To turn permutes the sides and comes back to each, within as many turns as there are sides. To turn is a step between
-/// labels, so the labels round a vertex are a closed walk.
+/// To turn permutes the sides and comes back to each, within as many turns as there are sides. To turn is a step
+/// between labels, so the labels round a vertex are a closed walk.
 pub fn orbits_are_closed_walks()
     ensures permutes { (c : Chain) (n : ℕ) (g : Sides) → IsFatgraph c n g → IsPermutation (turn g) (length g) }
     ensures comes_back { (c : Chain) (n : ℕ) (g : Sides) (s : ℕ) → IsFatgraph c n g → s < length g → (k : ℕ) × (k < length g) × (iterate (turn g) (suc k) s ≡ s) }

@@ -47,8 +47,8 @@ pub fn reduction_of_reduced()
     ensures cyclic_twice { (w : Word) → cyclic_reduction (cyclic_reduction w) ≡ cyclic_reduction w }
 {}
 
-/// The word `aabABA` allows no free deletion, and its ends are deleted down to `abAB`; `abB` is the same element as `a`,
-/// and `ab` isn't the same as `ba`.
+/// The word `aabABA` allows no free deletion, and its ends are deleted down to `abAB`; `abB` is the same element as
+/// `a`, and `ab` isn't the same as `ba`.
 pub fn reduction_by_example()
     ensures free { free_reduction (a ∷ a ∷ b ∷ a' ∷ b' ∷ a' ∷ []) ≡ a ∷ a ∷ b ∷ a' ∷ b' ∷ a' ∷ [] }
     ensures cyclic { cyclic_reduction (a ∷ a ∷ b ∷ a' ∷ b' ∷ a' ∷ []) ≡ a ∷ b ∷ a' ∷ b' ∷ [] }

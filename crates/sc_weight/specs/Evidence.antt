@@ -12,7 +12,8 @@ abbrev pub at_level : Level → Levels → ℤ
 at_level Bulk l = l.bulk
 at_level Fine l = l.fine
 
--- w names the first level, bulk before fine, at which the exact result of an operation on x and y is outside 128 bits, with the operands at that level
+-- w names the first level, bulk before fine, at which the exact result of an operation on x and y is outside 128 bits,
+-- with the operands at that level
 pub record IsFirstWideLevel (op : Op) (exact x y : Levels) (w : WideLevel) : Type 0 where
   pub outside : ¬ FitsSigned w128 (at_level w.level exact)
   pub first : w.level ≡ Fine → FitsSigned w128 exact.bulk

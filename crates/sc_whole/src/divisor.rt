@@ -3,7 +3,8 @@ ghost use Rattle.std.specs.Prelude.{◌≡◌, ℕ, ◌<◌, ◌≤◌, ◌↔�
 ghost use Rattle.std.specs.Int.{IsGcd};
 ghost use Rattle.sc_whole.specs.Divisor.{IsLcm};
 
-/// The greatest common divisor of the sizes of two numbers; 0 for two zeros. It is up to 2^127, which only a `u128` holds.
+/// The greatest common divisor of the sizes of two numbers; 0 for two zeros. It is up to 2^127, which only a `u128`
+/// holds.
 pub fn gcd(x: i128, y: i128) -> u128
     ensures { IsGcd (unsigned_abs x) (unsigned_abs y) result }
 {

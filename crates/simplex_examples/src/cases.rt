@@ -31,8 +31,9 @@ pub const TWO_COLUMNS: Problem = Problem {
     shares: 2,
 };
 
-/// Seven places, and the ways from each to each later one but the way from the first to the last. A way's column is 1 at its end
-/// and -1 at its start, where the first place has no row. Who goes from the first place to the last goes six ways at most.
+/// Seven places, and the ways from each to each later one but the way from the first to the last. A way's column is 1
+/// at its end and -1 at its start, where the first place has no row. Who goes from the first place to the last goes six
+/// ways at most.
 pub const WAYS: Problem = Problem {
     rhs: &[0, 0, 0, 0, 0, 1],
     lengths: &[1, 2, 3, 4, 5, 6],

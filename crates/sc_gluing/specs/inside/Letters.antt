@@ -1,4 +1,5 @@
--- Said by private functions alone: the lists that the seed surface is made with: the numbers of the letters at its sides, and their mates.
+-- Said by private functions alone: the lists that the seed surface is made with: the numbers of the letters at its
+-- sides, and their mates.
 use Rattle.std.specs.Prelude.{◌≡◌, ℕ, ◌<◌, List, length, get_or}
 use Rattle.sc_theory.specs.declared.Side.{Side}
 use Rattle.sc_theory.specs.Words.{inverse_letter}
@@ -17,7 +18,8 @@ pub record AreInverseCodes (c : Chain) (labels : List ℕ) (n : ℕ) (codes : Li
   pub as_many : length codes ≡ n
   pub codes_are : (s : ℕ) → s < n → get_or codes s 0 ≡ code (inverse_letter (letter c (get_or labels s 0)))
 
--- t is the side with the inverse letter that stands at the same place among those with its letter as s does among those with its
+-- t is the side with the inverse letter that stands at the same place among those with its letter as s does among those
+-- with its
 pub record AreLetterMates (c : Chain) (s t : ℕ) : Type 0 where
   pub inside : t < length (labels_of (word_cycles c))
   pub inverse : letter c (at (word_cycles c) t) ≡ inverse_letter (letter c (at (word_cycles c) s))

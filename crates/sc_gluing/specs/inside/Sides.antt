@@ -1,4 +1,5 @@
--- Said by private functions alone: the lists that a surface is glued with: the kinds of the steps that begin at its sides, the opposite kinds, the mates.
+-- Said by private functions alone: the lists that a surface is glued with: the kinds of the steps that begin at its
+-- sides, the opposite kinds, the mates.
 use Rattle.std.specs.Prelude.{◌≡◌, ℕ, ◌<◌, List, length, get_or}
 use Rattle.sc_theory.specs.declared.Side.{Side}
 use Rattle.sc_theory.specs.Chains.{Chain, positions, succ, prev}

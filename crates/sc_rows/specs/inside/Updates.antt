@@ -7,7 +7,8 @@ use Rattle.sc_rows.specs.declared.fault.WideAt.{WideAt}
 use Rattle.sc_rows.specs.declared.update.Update.{Update}
 use Rattle.sc_rows.specs.Updates.{joined, IsWideEntry}
 
--- the list x over d, whose product with the column (or whose gap) is a, where t over m is the leaving row over its product
+-- the list x over d, whose product with the column (or whose gap) is a, where t over m is the leaving row over its
+-- product
 pub record IsUpdated (u : Update) (n : ℕ) (x : ℕ → ℤ) (d : ℤ) (t : ℕ → ℤ) (m a : ℤ) (new : Line) : Type 0 where
   pub p : ℤ
   pub q : ℤ

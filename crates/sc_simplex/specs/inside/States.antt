@@ -47,7 +47,8 @@ IsPushed old new column place =
     ((i : ℕ) → IsKeyAt old i column.key.items → (place ≡ i) × (new ≡ old))
     × (((i : ℕ) → IsKeyAt old i column.key.items → ⊥) → (place ≡ length old) × (new ≡ old ++ column ∷ []))
 
--- what a pivot at the row leaves beside rows and prices: the column stands in the row, and the journal has one more pivot
+-- what a pivot at the row leaves beside rows and prices: the column stands in the row, and the journal has one more
+-- pivot
 pub record IsNoted (old new : State) (row : ℕ) (column : Column) : Type 0 where
   pub rows : new.rows ≡ old.rows
   pub prices : new.prices ≡ old.prices

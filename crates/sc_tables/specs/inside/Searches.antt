@@ -41,7 +41,8 @@ abbrev pub IsStop : {W : Type 0} → (W → Levels) → Square W → List (Node 
 IsStop levels t nodes end j (Wide n to wide) = (to ≡ j) × IsWideAt levels t nodes end j n wide
 IsStop levels t nodes end j Memory = Unit {0}
 
--- what was found among the walks from the number fresh to below n: a walk with a step to j, and none of the others has less
+-- what was found among the walks from the number fresh to below n: a walk with a step to j, and none of the others has
+-- less
 pub record IsBest {W : Type 0} (levels : W → Levels) (t : Square W) (nodes : List (Node W)) (fresh n end j : ℕ) (found : Option (Candidate W)) : Type 0 where
   pub candidate : IfSome found (λ b. (b.node < end) × IsCandidate levels t nodes j b)
   pub under_each : UnderEach levels t nodes fresh n j found
