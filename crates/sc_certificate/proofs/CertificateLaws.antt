@@ -9,7 +9,7 @@ use Rattle.sc_chain.specs.declared.polygon.Pivot.{Pivot}
 use Rattle.sc_words.specs.declared.limits.TheConstants.{GENERATORS}
 use Rattle.sc_chain.proofs.PairLaws.{pairs_below}
 use Rattle.sc_chain.proofs.PairPlaces.{few_pairs}
-use Rattle.sc_line.specs.Lines.{Line, count_line, lacks, AllLack}
+use Rattle.sc_line.specs.Lines.{lacks, AllLack}
 use Rattle.sc_line.specs.Formats.{IsShort}
 use Rattle.sc_line.proofs.NumberLaws.{IsCountInRange}
 use Rattle.sc_line.specs.Forms.{IsLawful, one, both}
@@ -18,16 +18,15 @@ use Rattle.sc_line.proofs.FormLaws.{AreAll, AreFew, lawful_both, lawful_as, lawf
 use Rattle.sc_text.specs.declared.limits.Limits.{Limits}
 use Rattle.sc_text.specs.declared.limits.TheConstants.{VERSION_1}
 use Rattle.sc_text.specs.PriceLines.{IsScaleInRange, IsPriceInRange, a_scale, a_base, a_pair}
-use Rattle.sc_text.specs.ValueLines.{Quotient, IsValueInRange, a_value}
-use Rattle.sc_text.specs.TableLines.{Entry, IsTableInRange, a_table}
-use Rattle.sc_text.specs.Parts.{words_form, copies_form, sides_form, scale_form, bases_form, pairs_form, tables_form}
+use Rattle.sc_text.specs.ValueLines.{IsValueInRange, a_value}
+use Rattle.sc_text.specs.TableLines.{IsTableInRange, a_table}
+use Rattle.sc_text.specs.Parts.{words_form, scale_form, bases_form, pairs_form, tables_form}
 use Rattle.sc_text.specs.Surfaces.{ending, uncounted, IsChainWithin}
 use Rattle.sc_text.proofs.KindLaws.{scale_kind, base_kind, pair_kind, from_kind, value_kind}
 use Rattle.sc_text.proofs.FeedLaws.{lacks-spaced, lacks-number, lacks-numbers_line, lacks-value_line, lacks-pair_line, lacks-from_line}
 use Rattle.sc_text.proofs.SurfaceLaws.{AreSidesFor, lawful_words, lawful_copies, lawful_sides}
 use Rattle.sc_certificate.specs.PivotLines.{pivot_line, a_pivot, IsPivotInRange}
-use Rattle.sc_certificate.specs.Sizes.{IsSmallList, FitsCounts, list_of}
-use Rattle.sc_certificate.specs.Certificates.{Certificate, heading, journal_form, from_journal, from_tables, from_pairs, from_bases, from_scale, from_sides, body_form, from_value, front_form, FrontTold, BodyTold, ValueTold, Told, certificate_told, told_by, certificate_form, no_body, certificate_due, IsCertificateWithin, IsCertificateInRange}
+use Rattle.sc_certificate.specs.Certificates.{Certificate, heading, journal_form, from_journal, from_tables, from_pairs, from_bases, from_scale, from_sides, body_form, from_value, front_form, FrontTold, BodyTold, Told, certificate_told, told_by, certificate_form, no_body, certificate_due, IsCertificateWithin, IsCertificateInRange}
 use Rattle.sc_certificate.proofs.PivotLaws.{pivot_kind}
 
 -- ---- the parts

@@ -1,5 +1,5 @@
 -- The numbers of a list's form, and its value at a direction.
-use Rattle.std.proofs.Common.{◌≡◌, ℕ, ◌+◌, ◌*◌, ◌<◌, ◌≤◌, length, ℤ, pos, ◌+ℤ◌, ◌-ℤ◌, ◌*ℤ◌, ◌<ℤ◌, ◌↔◌, ◌==◌, Bool, IsTrue, Ordering, unsigned_abs, FitsSigned, arith, sym, ap, ap₂, subst, subst₂, ◌∙◌}
+use Rattle.std.proofs.Common.{◌≡◌, ℕ, ◌+◌, ◌*◌, ◌≤◌, length, ℤ, pos, ◌+ℤ◌, ◌-ℤ◌, ◌*ℤ◌, ◌<ℤ◌, ◌↔◌, ◌==◌, Bool, IsTrue, Ordering, unsigned_abs, FitsSigned, arith, sym, ap, ap₂, subst, subst₂, ◌∙◌}
 use Rattle.std.specs.Int.{w128}
 use Rattle.std.specs.Cmp.{Equal-is}
 use Rattle.std.specs.Ordering.{int_cmp, ordering_index}

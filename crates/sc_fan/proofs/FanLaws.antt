@@ -18,14 +18,14 @@ use Rattle.sc_line.specs.Formats.{Format, told, a_line, Reads}
 use Rattle.sc_line.specs.Forms.{Both, and_also, LineKind, IsLawful, literal_due, and_then, lines_after, one_due, many_due, both_due}
 use Rattle.sc_line.proofs.NumberLaws.{good_literal, literal_inverse}
 use Rattle.sc_line.proofs.FormatLaws.{line_told, short_more}
-use Rattle.sc_line.proofs.FormLaws.{AllAfter, AreCounted, AreAll, lines_map, lawful_both, lawful_as, lawful_where, lawful_one, lawful_literal, lawful_counted, lawful_all}
+use Rattle.sc_line.proofs.FormLaws.{AllAfter, AreAll, lines_map, lawful_both, lawful_as, lawful_where, lawful_one, lawful_literal, lawful_all}
 use Rattle.sc_text.specs.Words.{word_line}
 use Rattle.sc_text.specs.declared.limits.TheConstants.{VERSION_1}
 use Rattle.sc_text.specs.PriceLines.{a_scale, a_base, a_pair, scale_line, base_line, pair_line, IsScaleInRange, IsPriceInRange}
 use Rattle.sc_text.specs.Parts.{scale_form, bases_form, pairs_form}
 use Rattle.sc_text.specs.Surfaces.{ending, IsChainFor}
 use Rattle.sc_text.proofs.KindLaws.{scale_kind, base_kind, pair_kind}
-use Rattle.sc_text.proofs.FeedLaws.{lacks-word_line, lacks-numbers_line, lacks-pair_line}
+use Rattle.sc_text.proofs.FeedLaws.{lacks-numbers_line, lacks-pair_line}
 use Rattle.sc_text.proofs.SurfaceLaws.{word_kinds, lawful_chain as lawful_chain_of_text}
 use Rattle.sc_certificate.specs.Spelled.{list_lines}
 use Rattle.sc_cone.specs.declared.Quadrant.{Quadrant}

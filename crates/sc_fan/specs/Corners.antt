@@ -1,5 +1,5 @@
 -- The line of a corner.
-use Rattle.std.specs.Prelude.{ℕ, ◌+◌, ◌<◌, nat_lt, Bool, ◌&&◌, List, [], ◌∷◌, get_or, Option, Some, None, if◌then◌else◌, ℤ, pos, neg_ℤ, ◌≤ℤ◌, codes, unsigned_abs}
+use Rattle.std.specs.Prelude.{◌+◌, ◌<◌, nat_lt, Bool, ◌&&◌, List, [], ◌∷◌, get_or, Option, Some, None, if◌then◌else◌, ℤ, pos, neg_ℤ, ◌≤ℤ◌, codes, unsigned_abs}
 use Rattle.sc_whole.specs.Spelling.{spelling}
 use Rattle.sc_fraction.specs.Quotient.{quotient_text}
 use Rattle.sc_line.specs.declared.fault.Kind.{Kind}

@@ -1,5 +1,5 @@
 -- Cycles that are laid one behind another as lists of numbers.
-use Rattle.std.specs.Prelude.{◌≡◌, ℕ, ◌<◌, List, ◌++◌, ◌+◌, length, get_or, replicate}
+use Rattle.std.specs.Prelude.{◌≡◌, ℕ, ◌<◌, List, ◌++◌, length, get_or, replicate}
 use Rattle.sc_gluing.specs.Cycles.{labels_of, after}
 
 -- the label of each side along the cycles, and the side after it

@@ -1,5 +1,5 @@
 -- The components, made out of lists, are those of the definition.
-use Rattle.std.proofs.Common.{◌≡◌, ℕ, ◌/◌, ◌<◌, ◌==◌, ◌&&◌, Bool, true, List, [], length, map, get_or, sym, ◌∙◌, ap, ap₂, refl, arith}
+use Rattle.std.proofs.Common.{◌≡◌, ℕ, ◌/◌, ◌<◌, ◌==◌, ◌&&◌, Bool, true, List, length, map, ◌∙◌, ap, ap₂, arith}
 use Rattle.sc_algebra.specs.Sums.{count_below}
 use Rattle.sc_algebra.specs.Permutations.{is_least_for}
 use Rattle.sc_algebra.proofs.Sums.{count-congr}

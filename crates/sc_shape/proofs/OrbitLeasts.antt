@@ -1,6 +1,6 @@
 -- Least numbers of classes under one permutation are the least numbers of its orbits; classes of lists are those of
 -- the maps.
-use Rattle.std.proofs.Common.{◌≡◌, ◌≢◌, ℕ, zero, suc, ◌+◌, ◌<◌, ◌≤◌, ◌==◌, Bool, true, false, ◌⊎◌, inl, inr, List, [], ◌∷◌, length, sym, ◌∙◌, ap, refl, arith, if◌then◌else◌}
+use Rattle.std.proofs.Common.{◌≡◌, ◌≢◌, ℕ, zero, suc, ◌+◌, ◌<◌, ◌≤◌, ◌==◌, Bool, true, false, inl, inr, List, [], ◌∷◌, length, sym, ◌∙◌, ap, refl, arith}
 use Rattle.std.specs.Fn.{iterate}
 use Rattle.std.proofs.lemmas.Bool.{cases_Bool, eq-eqb, ne_eqb}
 use Rattle.sc_algebra.specs.Permutations.{IsPermutation, is_least_for}
@@ -11,8 +11,8 @@ use Rattle.sc_fatgraph.specs.inside.Orbits.{IsRibbon}
 use Rattle.sc_theory.specs.Fatgraphs.{Sides, mate, next, turn}
 use Rattle.sc_shape.specs.Classes.{along, LeadsTo, IsLeastLeading, entry}
 use Rattle.sc_shape.specs.inside.Classes.{StaysBelow, AreLeast}
-use Rattle.sc_shape.specs.Shapes.{IsLeastOfComponent, IsLeastOfBoundary}
-use Rattle.sc_shape.specs.SideLists.{AreValues, is_own}
+use Rattle.sc_shape.specs.Shapes.{IsLeastOfBoundary}
+use Rattle.sc_shape.specs.SideLists.{AreValues}
 use Rattle.sc_shape.specs.inside.SideLists.{AreSteps, AreLeasts, PointInside}
 
 -- ---- maps that agree below n

@@ -1,15 +1,15 @@
 -- Components in a list, the places where they stand, and the boundaries that are put into them.
-use Rattle.std.proofs.Common.{cond, ◌≡◌, ◌≢◌, ℕ, zero, suc, ◌+◌, ◌/◌, ◌<◌, ◌≤◌, ◌==◌, ◌&&◌, Bool, true, false, inl, inr, List, [], ◌∷◌, ◌++◌, length, map, take, drop, get_or, sym, ◌∙◌, ap, ap₂, refl, arith, add-one, get_or-set_other, get_or-set_same}
+use Rattle.std.proofs.Common.{◌≡◌, ◌≢◌, ℕ, suc, ◌+◌, ◌/◌, ◌<◌, ◌≤◌, ◌==◌, ◌&&◌, Bool, true, false, inl, inr, List, [], ◌∷◌, ◌++◌, length, map, take, drop, get_or, sym, ◌∙◌, ap, ap₂, refl, arith, add-one, get_or-set_other, get_or-set_same}
 use Rattle.std.proofs.Math.ListN.{set}
-use Rattle.std.proofs.lemmas.Bool.{cases_eq, cases_lt, cases_Bool, eq-eqb, ne_eqb, eqb-true}
+use Rattle.std.proofs.lemmas.Bool.{cases_eq, eq-eqb, ne_eqb, eqb-true}
 use Rattle.std.proofs.lemmas.List.{map-append}
 use Rattle.sc_algebra.specs.Sums.{count_below}
 use Rattle.sc_algebra.proofs.Sums.{count-le}
 use Rattle.sc_theory.specs.Chains.{Chain, word_of, word as the_word}
 use Rattle.sc_theory.specs.Fatgraphs.{Sides, label, mate, next}
-use Rattle.sc_shape.specs.Classes.{entry, IsLeastLeading}
+use Rattle.sc_shape.specs.Classes.{entry}
 use Rattle.sc_shape.specs.Shapes.{list_below, IsLeastOfComponent}
-use Rattle.sc_shape.specs.inside.SideLists.{AreLeasts, AreAtPlaces, ArePlaces, PointInside, bare, boundary_with, with_boundaries, no_component}
+use Rattle.sc_shape.specs.inside.SideLists.{AreAtPlaces, ArePlaces, PointInside, bare, boundary_with, with_boundaries, no_component}
 use Rattle.sc_shape.specs.SideLists.{is_own}
 use Rattle.sc_shape.specs.declared.component.Boundary.{Boundary}
 use Rattle.sc_shape.specs.declared.component.Component.{Component}

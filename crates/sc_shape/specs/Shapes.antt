@@ -1,5 +1,5 @@
 -- The components of a labelled fatgraph and their boundaries.
-use Rattle.std.specs.Prelude.{◌≡◌, ℕ, zero, suc, ◌/◌, ◌<◌, ◌≤◌, Bool, ◌&&◌, ◌==◌, if◌then◌else◌, List, [], ◌∷◌, ◌++◌, length, map, get_or}
+use Rattle.std.specs.Prelude.{◌≡◌, ℕ, zero, suc, ◌/◌, ◌<◌, ◌≤◌, Bool, ◌&&◌, ◌==◌, if◌then◌else◌, List, [], ◌∷◌, ◌++◌, length, map}
 use Rattle.std.specs.Fn.{iterate}
 use Rattle.sc_algebra.specs.Sums.{count_below}
 use Rattle.sc_algebra.specs.Permutations.{is_least_for}

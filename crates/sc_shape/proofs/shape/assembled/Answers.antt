@@ -1,5 +1,4 @@
-use Rattle.std.proofs.Common.{◌≡◌, ℕ, ◌<◌, true, List, length, arith, sym, ◌∙◌, subst}
-use Rattle.sc_shape.specs.Classes.{entry}
+use Rattle.std.proofs.Common.{◌≡◌, ℕ, true, List, length, arith, sym, ◌∙◌, subst}
 use Rattle.sc_shape.specs.inside.SideLists.{AreLeasts, AreTallies, PointInside}
 use Rattle.sc_shape.specs.SideLists.{is_own}
 use Rattle.sc_shape.proofs.OrbitLeasts.{boundaries_inside}

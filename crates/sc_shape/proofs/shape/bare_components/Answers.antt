@@ -1,4 +1,4 @@
-use Rattle.std.proofs.Common.{◌≡◌, ℕ, ◌<◌, ◌/◌, List, length, arith, ap, ap₂, ◌∙◌}
+use Rattle.std.proofs.Common.{ℕ, ◌/◌, List, arith, ap, ap₂, ◌∙◌}
 use Rattle.sc_shape.specs.Classes.{entry}
 use Rattle.sc_shape.specs.declared.component.Boundary.{Boundary}
 use Rattle.sc_shape.specs.declared.component.Component.{Component}

@@ -1,4 +1,4 @@
-use Rattle.std.proofs.Common.{◌≡◌, ℕ, ◌<◌, length, get_or, arith, ap, ◌∙◌}
+use Rattle.std.proofs.Common.{◌≡◌, ℕ, length, get_or, arith}
 use Rattle.sc_shape.proofs.WordSizes.{word_size}
 use Rattle.sc_shape.proofs.shape.boundary_at.Goals as goal
 

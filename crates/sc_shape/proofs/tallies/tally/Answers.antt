@@ -1,5 +1,4 @@
 use Rattle.std.proofs.Common.{true, ℕ, get_or, arith}
-use Rattle.sc_shape.specs.SideLists.{is_own}
 use Rattle.sc_shape.proofs.Tallying.{tally_small}
 use Rattle.sc_shape.proofs.tallies.tally.Goals as goal
 
