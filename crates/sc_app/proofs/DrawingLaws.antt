@@ -1,5 +1,5 @@
 -- A labelled fatgraph has one drawing.
-use Rattle.std.proofs.Common.{◌≡◌, ◌≢◌, ℕ, zero, suc, pred, ◌+◌, ◌-◌, ◌*◌, ◌<◌, ◌≤◌, nat_lt, not, ◌==◌, ◌&&◌, Bool, true, false, inl, inr, List, [], ◌∷◌, ◌++◌, length, refl, ap, ap₂, sym, ◌∙◌, subst, arith}
+use Rattle.std.proofs.Common.{◌≡◌, ◌≢◌, ℕ, zero, suc, pred, ◌+◌, ◌-◌, ◌*◌, ◌<◌, ◌≤◌, nat_lt, not, ◌==◌, Bool, true, false, inl, inr, List, [], ◌∷◌, ◌++◌, length, refl, ap, ap₂, sym, ◌∙◌, subst, arith}
 use Rattle.std.specs.Fn.{iterate}
 use Rattle.std.specs.List.{flat_map}
 use Rattle.std.proofs.lemmas.Bool.{cases_Bool, cases_eq, cases_lt, and_parts, false≢true}
@@ -18,7 +18,7 @@ use Rattle.sc_shape.specs.Shapes.{list_below}
 use Rattle.sc_shape.proofs.ListsBelow.{list_passes, list_fails}
 use Rattle.sc_shape.proofs.OrbitLeasts.{orbit_returns, iterate_below}
 use Rattle.sc_svg.specs.Layout.{is_apart, orbit_size, order_below, AreLaidOut}
-use Rattle.sc_svg.specs.Drawings.{joined, head_line, vertex_line, edge_line, letter_line, last_line, last_side, base, drawing, IsDrawing}
+use Rattle.sc_svg.specs.Drawings.{joined, head_line, vertex_line, edge_line, letter_line, last_line, last_side, base, drawing}
 use Rattle.sc_svg.proofs.Orbits.{orbits_apart, apart_next, apart_few, iterates_apart, order_inside}
 use Rattle.sc_app.specs.Svg.{IsPicture}
 use Rattle.sc_app.proofs.FirstPlaces.{none_at_all, chosen}

@@ -5,10 +5,9 @@ use Rattle.std.proofs.lemmas.List.Elements.{All-nil, All-cons}
 use Rattle.std.specs.List.{AllByRecursion}
 use Rattle.sc_theory.specs.Words.{Word, cyclic_reduction}
 use Rattle.sc_theory.specs.Chains.{Chain, IsChain, no_word, no_letter, word}
-use Rattle.sc_line.specs.Lines.{Line}
 use Rattle.sc_words.specs.declared.lines.RawLine.{RawLine}
 use Rattle.sc_words.specs.declared.limits.TheConstants.{GENERATORS}
-use Rattle.sc_words.specs.ChainText.{IsRawLine, IsChainText, text_lines, raw_lines}
+use Rattle.sc_words.specs.ChainText.{IsRawLine, IsChainText, text_lines}
 use Rattle.sc_words.proofs.ReadingLaws.{raw_lines_in_range}
 use Rattle.sc_reduce.specs.Lines.{signed_word, weighted_word, line_chain, chain_of, IsWithin}
 use Rattle.sc_reduce.proofs.LineLaws.{All-chain_of, good_chain, generators_of_chain}

@@ -1,6 +1,6 @@
 -- A text of two chains has one list of lines for each of them, one first wrong line where it has any, and one of the
 -- two.
-use Rattle.std.proofs.Common.{◌≡◌, ◌≢◌, ℕ, zero, suc, pred, ◌<◌, ◌≤◌, ◌⊎◌, true, false, List, [], length, take, drop, Option, None, Some, IsSome, inl, inr, refl, ap, ap₂, ◌∙◌, subst, sym, arith}
+use Rattle.std.proofs.Common.{◌≡◌, ℕ, zero, suc, pred, ◌<◌, ◌≤◌, ◌⊎◌, false, List, [], length, take, drop, Option, None, Some, IsSome, inl, inr, refl, ap, ap₂, ◌∙◌, subst, sym, arith}
 use Rattle.std.specs.List.{position_or_len}
 use Rattle.std.proofs.lemmas.Bool.{cases_lt, cases_eq, true≢false}
 use Rattle.std.proofs.lemmas.List.Sums.{fails_before_first, passes_at_first}

@@ -1,5 +1,4 @@
 -- Halves of a fan, and the arcs that lead to them.
-use Rattle.sc_cone.specs.Searches.{reached}
 use Rattle.sc_fan.specs.declared.corner.Corner.{Corner as CornerParts}
 use Rattle.sc_ball.specs.declared.solved.Solved.{Solved}
 

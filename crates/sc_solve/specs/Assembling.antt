@@ -2,7 +2,6 @@
 use Rattle.std.specs.Prelude.{ℕ, ◌<◌}
 use Rattle.sc_assembly.specs.declared.counting.PartsFault.{PartsFault}
 use Rattle.sc_assembly.specs.declared.counting.PartsFault.TheVariants as parts_faults
-use Rattle.sc_solve.specs.declared.assembling.PartStop.TheVariants.{Sides, Memory}
 
 -- the place that is told is one of n
 abbrev pub IsWithin : ℕ → PartsFault → Type 0

@@ -2,7 +2,6 @@
 use Rattle.std.specs.Prelude.{◌≡◌, ◌⊎◌, ℕ, ℤ, pos, unsigned_abs}
 use Rattle.sc_theory.specs.Chains.{Chain}
 use Rattle.sc_theory.specs.Walks.{IsStep}
-use Rattle.sc_theory.specs.Prices.{price}
 use Rattle.sc_weight.specs.declared.pair.Pair.{Pair}
 use Rattle.sc_tables.specs.Squares.{Square}
 use Rattle.sc_tables.specs.StepPrices.{price_in}

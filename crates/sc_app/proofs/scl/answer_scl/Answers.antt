@@ -1,6 +1,5 @@
 use Rattle.std.proofs.Common.{◌≤◌, length, arith, subst, sym, ◌∙◌, ap}
 use Rattle.std.proofs.lemmas.Result.{IfOk-weaker}
-use Rattle.sc_theory.specs.Chains.{Chain}
 use Rattle.sc_text.specs.Surfaces.{IsChainInRange}
 use Rattle.sc_reduce.specs.Lines.{letters_of, chain_of, IsWithin}
 use Rattle.sc_reduce.proofs.TextLetters.{letters_of_text}
