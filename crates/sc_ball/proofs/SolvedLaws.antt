@@ -13,7 +13,7 @@ use Rattle.sc_theory.proofs.VertexLaws.{cost_not_negative}
 use Rattle.sc_fraction.specs.declared.frac.Frac.{Frac}
 use Rattle.sc_fraction.specs.Frac.{numerator, denominator, IsQuotient}
 use Rattle.sc_text.specs.ValueLines.{quotient_of}
-use Rattle.sc_fatgraph.specs.Surfaces.{IsSurface}
+use Rattle.sc_fatgraph.specs.Surfaces.{IsSmallFatgraph}
 use Rattle.sc_certificate.specs.Sizes.{IsSmallList, FitsCounts}
 use Rattle.sc_solve.specs.declared.solution.Solution.{Solution}
 use Rattle.sc_solve.specs.Solutions.{IsSolution}
@@ -91,7 +91,7 @@ module _ (q : Quadrant) (first second : Chain) (is_first : IsChain first) (is_se
         pair = fits.pair ∙ ap (λ (ps : List (ℕ × ℕ)). length ps) (pairs_same chain (quadrant_chain q first second) same);
       }
 
-  module _ (light : IsLight first second d) (small : IsSmall d) (s : Solution) (surface : IsSurface s.fatgraph) (list_small : IsSmallList s.list) where
+  module _ (light : IsLight first second d) (small : IsSmall d) (s : Solution) (surface : IsSmallFatgraph s.fatgraph) (list_small : IsSmallList s.list) where
     abbrev solved : Solved
     solved = record { reached = record { direction = d; list = s.list }; value = s.value }
 

@@ -1,7 +1,7 @@
 //! Directions that are solved.
 
 ghost use Rattle.std.specs.Prelude.{◌≡◌, ◌<◌, IfOk, IfErr};
-ghost use Rattle.sc_fatgraph.specs.Surfaces.{IsSurface};
+ghost use Rattle.sc_fatgraph.specs.Surfaces.{IsSmallFatgraph};
 ghost use Rattle.sc_certificate.specs.Sizes.{IsSmallList};
 ghost use Rattle.sc_chain.specs.Faults.{IsSmallChain};
 ghost use Rattle.sc_cone.specs.Cones.{chain_of};
@@ -34,7 +34,7 @@ pub(crate) fn check_chain(chain: &Chain)
 
 /// What the surface and the list of every solution keep.
 fn check_solution(solution: &Solution)
-    ensures surface { IsSurface solution.now.fatgraph }
+    ensures surface { IsSmallFatgraph solution.now.fatgraph }
     ensures list { IsSmallList solution.now.list }
 {
     // For their contracts alone, as in `check_chain`.

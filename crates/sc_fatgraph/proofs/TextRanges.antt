@@ -12,7 +12,7 @@ use Rattle.sc_words.specs.declared.limits.TheConstants.{GENERATORS}
 use Rattle.sc_text.specs.Words.{IsWordInRange}
 use Rattle.sc_text.specs.Sides.{IsSideInRange}
 use Rattle.sc_text.specs.Surfaces.{IsSurfaceInRange}
-use Rattle.sc_fatgraph.specs.Surfaces.{Surface, IsSurface}
+use Rattle.sc_fatgraph.specs.Surfaces.{Surface, IsSmallFatgraph}
 use Rattle.sc_fatgraph.specs.Texts.{HaveWeights}
 
 -- a fact of each entry, by the entry's number
@@ -39,7 +39,7 @@ word_in_range c small weights w inside = record {
   reduced = small.chain.reduced w inside;
 }
 
-side_in_range : (f : Surface) → IsSmallChain f.chain → IsSurface f → (s : ℕ) → s < length f.sides → IsSideInRange (get_or f.sides s no_side)
+side_in_range : (f : Surface) → IsSmallChain f.chain → IsSmallFatgraph f → (s : ℕ) → s < length f.sides → IsSideInRange (get_or f.sides s no_side)
 side_in_range f small h s inside = record {
   label = omega (arith, h.fatgraph.labels s inside, small.few_positions);
   mate = omega (arith, h.fatgraph.mates s inside, h.few_sides);
@@ -47,7 +47,7 @@ side_in_range f small h s inside = record {
 }
 
 -- over a chain within the limits, with the weights of a text, a fatgraph is one that a text may hold
-pub surface_in_range : (f : Surface) → IsSmallChain f.chain → IsSurface f → HaveWeights f.chain → IsSurfaceInRange f.chain f.copies f.sides
+pub surface_in_range : (f : Surface) → IsSmallChain f.chain → IsSmallFatgraph f → HaveWeights f.chain → IsSurfaceInRange f.chain f.copies f.sides
 surface_in_range f small h weights = record {
   chain = record { count = small.few_words; words = by_number IsWordInRange no_word f.chain (word_in_range f.chain small weights); letters = small.few_positions };
   low = h.fatgraph.copies;

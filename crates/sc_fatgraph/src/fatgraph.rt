@@ -4,7 +4,7 @@ ghost use Rattle.std.specs.Prelude.{◌≡◌, ◌==◌, ◌<◌, ◌≤◌, len
 ghost use Rattle.sc_theory.specs.Chains.{IsBalanced};
 ghost use Rattle.sc_theory.specs.Fatgraphs.{IsFatgraph, no_side, vertices, edges};
 ghost use Rattle.sc_fatgraph.specs.Faults.{IsFaultOf};
-ghost use Rattle.sc_fatgraph.specs.Surfaces.{surface, IsSurface};
+ghost use Rattle.sc_fatgraph.specs.Surfaces.{surface, IsSmallFatgraph};
 
 use crate::flaws::{SurfaceFault, first_flaw};
 use crate::limits::{MAX_COPIES, MAX_SIDES};
@@ -24,13 +24,13 @@ pub struct Fatgraph {
 }
 
 impl Model for Fatgraph {
-    ghost use Rattle.sc_fatgraph.specs.Surfaces.{Surface, surface, IsSurface};
+    ghost use Rattle.sc_fatgraph.specs.Surfaces.{Surface, surface, IsSmallFatgraph};
 
     ghost Value = { Surface };
 
     ghost view = { λ f. surface f.chain f.copies f.sides };
 
-    ghost invariant = { λ f. IsSurface (surface f.chain f.copies f.sides) };
+    ghost invariant = { λ f. IsSmallFatgraph (surface f.chain f.copies f.sides) };
 }
 
 /// How many sides, vertices and edges a fatgraph has.
@@ -74,7 +74,7 @@ impl Fatgraph {
     /// The chain that it is over.
     pub fn chain(&self) -> &Chain
         ensures value { result.now ≡ self.now.chain }
-        ensures fatgraph { IsSurface self.now }
+        ensures fatgraph { IsSmallFatgraph self.now }
     {
         &self.chain
     }
@@ -82,7 +82,7 @@ impl Fatgraph {
     /// How many copies of the chain its boundary runs along.
     pub fn copies(&self) -> u32
         ensures value { result ≡ self.now.copies }
-        ensures fatgraph { IsSurface self.now }
+        ensures fatgraph { IsSmallFatgraph self.now }
     {
         self.copies
     }
@@ -90,7 +90,7 @@ impl Fatgraph {
     /// How many sides it has.
     pub fn len(&self) -> u32
         ensures value { result ≡ length self.now.sides }
-        ensures fatgraph { IsSurface self.now }
+        ensures fatgraph { IsSmallFatgraph self.now }
     {
         self.sides.len() as u32
     }
@@ -106,7 +106,7 @@ impl Fatgraph {
     pub fn side(&self, i: u32) -> Side
         requires { i < length self.now.sides }
         ensures value { result ≡ get_or self.now.sides i no_side }
-        ensures fatgraph { IsSurface self.now }
+        ensures fatgraph { IsSmallFatgraph self.now }
     {
         self.sides.as_slice()[i as usize]
     }
@@ -114,7 +114,7 @@ impl Fatgraph {
     /// The sides in order.
     pub fn sides(&self) -> &Sides
         ensures value { result.now ≡ self.now.sides }
-        ensures fatgraph { IsSurface self.now }
+        ensures fatgraph { IsSmallFatgraph self.now }
     {
         &self.sides
     }

@@ -19,7 +19,7 @@ use Rattle.sc_text.specs.declared.limits.TheConstants.{MAX_PIVOTS}
 use Rattle.sc_text.specs.TableLines.{IsTableInRange}
 use Rattle.sc_text.specs.Words.{IsWordInRange}
 use Rattle.sc_text.specs.Surfaces.{IsChainInRange}
-use Rattle.sc_fatgraph.specs.Surfaces.{Surface, IsSurface}
+use Rattle.sc_fatgraph.specs.Surfaces.{Surface, IsSmallFatgraph}
 use Rattle.sc_fatgraph.specs.Texts.{HaveWeights}
 use Rattle.sc_fatgraph.proofs.TextRanges.{surface_in_range}
 use Rattle.sc_certificate.specs.Certificates.{IsCertificateInRange}
@@ -85,7 +85,7 @@ lift_counts c p list lift =
 
 -- ---- the certificate
 -- a certificate whose parts are in their ranges, over a surface of the chain with its value, is in its range
-pub certificate_in_range : (c : Chain) (f : Surface) (v : Frac) (list : Prices) (tables : Tables) (journal : List Pivot) → IsSmallChain c → IsChainInRange c → f.chain ≡ c → IsSurface f → IsQuotient (cost f.sides) (pos (2 * f.copies)) v
+pub certificate_in_range : (c : Chain) (f : Surface) (v : Frac) (list : Prices) (tables : Tables) (journal : List Pivot) → IsSmallChain c → IsChainInRange c → f.chain ≡ c → IsSmallFatgraph f → IsQuotient (cost f.sides) (pos (2 * f.copies)) v
     → IsSmallList list → FitsCounts (length c) (length (pairs c)) list → AreTablesOf (positions c) tables → AreSmallTables tables → length journal ≤ MAX_PIVOTS → AllByRecursion (IsPivotInRange c) journal
     → IsCertificateInRange (stated f v list tables journal)
 certificate_in_range c f v list tables journal small in_range over surface value list_small counts sizes tables_small few pivots =

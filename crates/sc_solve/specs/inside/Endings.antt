@@ -10,7 +10,7 @@ use Rattle.sc_chain.specs.declared.polygon.Pivot.{Pivot}
 use Rattle.sc_basis.specs.Standing.{BasisNumbers, Stands}
 use Rattle.sc_fraction.specs.declared.frac.Frac.{Frac}
 use Rattle.sc_fraction.specs.Frac.{IsQuotient}
-use Rattle.sc_fatgraph.specs.Surfaces.{Surface, IsSurface}
+use Rattle.sc_fatgraph.specs.Surfaces.{Surface, IsSmallFatgraph}
 use Rattle.sc_certificate.specs.Sizes.{IsSmallList, AreSmallTables, AreTablesOf}
 use Rattle.sc_rows.specs.declared.prices.PriceRows.{PriceRows}
 use Rattle.sc_simplex.specs.declared.column.KeyPivot.{KeyPivot}
@@ -83,7 +83,7 @@ IsStopOf simplex_faults.Memory Memory = Unit {0}
 -- the solution has this surface with its value, this list with its tables, and what is known of the basis
 pub record IsCertified (c : Chain) (e : Ending) (list : Prices) (f : Surface) (s : Solution) : Type 0 where
   pub surface_is : s.fatgraph ≡ f
-  pub surface : IsSurface f
+  pub surface : IsSmallFatgraph f
   pub small_list : IsSmallList list
   pub small_tables : AreSmallTables s.tables
   pub copies_are : s.n ≡ f.copies
