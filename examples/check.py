@@ -82,8 +82,8 @@ class Reader:
 
     def table(self, start, size):
         def meaning(*fields):
-            row = [None if field == "-" else number(field) for field in fields]
-            return [x if x is None else within(-MAX_ENTRY, x, MAX_ENTRY) for x in row]
+            entries = [None if field == "-" else number(field) for field in fields]
+            return [x if x is None else within(-MAX_ENTRY, x, MAX_ENTRY) for x in entries]
 
         return self.line(f"from {start}", size, meaning)
 
@@ -166,14 +166,14 @@ def check(text):
         return "rejected value"
 
     # the tables vouch that each closed walk costs at least the scale
-    for start, row in enumerate(tables):
-        if row[start] != 0:
+    for start, table in enumerate(tables):
+        if table[start] != 0:
             return f"rejected table {start}"
         for i, j in sorted(steps):
-            if row[i] is None:
+            if table[i] is None:
                 continue
-            total = row[i] + steps[i, j]
-            if total < scale if j == start else row[j] is None or row[j] > total:
+            total = table[i] + steps[i, j]
+            if total < scale if j == start else table[j] is None or table[j] > total:
                 return f"rejected table {start} {i} {j}"
 
     # and no fatgraph has more vertices than the prices say that this one has
