@@ -67,7 +67,7 @@ fn fans_are_printed(rt: HostRuntime) -> Result<(), Fail> {
 /// and at that of one and twice the other: there a value is the sum of theirs.
 #[test]
 fn values_are_those_of_scl(rt: HostRuntime) -> Result<(), Fail> {
-    let rows: [(i8, i8, &str); 19] = [
+    let cases: [(i8, i8, &str); 19] = [
         (0, -1, "1/2"),
         (1, -3, "3/2"),
         (1, -4, "2/1"),
@@ -88,7 +88,7 @@ fn values_are_those_of_scl(rt: HostRuntime) -> Result<(), Fail> {
         (1, 4, "2/1"),
         (0, 1, "1/2"),
     ];
-    for (s, t, value) in rows {
+    for (s, t, value) in cases {
         let input = format!(in rt.alloc(); "{s} abAB\n{t} ab\n{t} A\n{t} B\n")?;
         let (_, verdict) = solve_and_check(rt.alloc(), "scl", input.as_bytes())?;
         let expected = format!(in rt.alloc(); "optimal {value}\n")?;

@@ -76,18 +76,18 @@ fn fan_of(alloc: Global, first: &[u8], second: &[u8]) -> Result<Fan, Fail> {
 }
 
 // Whether the corners are these: the two numbers of the direction, and those of the value.
-fn has_corners(fan: &Fan, rows: &[(i64, i64, i128, i128)]) -> bool {
-    fan.corners.len() == rows.len()
-        && fan.corners.iter().zip(rows).all(|(corner, row)| {
-            (corner.direction.s, corner.direction.t) == (row.0, row.1)
-                && (corner.value.num(), corner.value.den()) == (row.2, row.3)
+fn has_corners(fan: &Fan, wanted: &[(i64, i64, i128, i128)]) -> bool {
+    fan.corners.len() == wanted.len()
+        && fan.corners.iter().zip(wanted).all(|(corner, place)| {
+            (corner.direction.s, corner.direction.t) == (place.0, place.1)
+                && (corner.value.num(), corner.value.den()) == (place.2, place.3)
         })
 }
 
 #[test]
 fn corners_of_small_chains(rt: HostRuntime) -> Result<(), Fail> {
     let alloc = rt.alloc();
-    let rows: [(&[u8], &[u8], &[(i64, i64, i128, i128)]); 4] = [
+    let cases: [(&[u8], &[u8], &[(i64, i64, i128, i128)]); 4] = [
         (
             b"abAB",
             b"cdCD",
@@ -113,7 +113,7 @@ fn corners_of_small_chains(rt: HostRuntime) -> Result<(), Fail> {
         ),
         (b"", b"", &[(0, -1, 0, 1), (1, 0, 0, 1), (0, 1, 0, 1)]),
     ];
-    for (first, second, corners) in rows {
+    for (first, second, corners) in cases {
         let fan = fan_of(alloc, first, second)?;
         assert!(rt; has_corners(&fan, corners));
     }

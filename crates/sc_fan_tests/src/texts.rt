@@ -92,7 +92,7 @@ fn with_line(rt: &HostRuntime, lines: u8, line: &[u8]) -> Result<Vec<u8>, AllocE
 
 #[test]
 fn faults_of_lines(rt: HostRuntime) -> Result<(), Fail> {
-    let rows: [(u8, &[u8], Kind); 18] = [
+    let cases: [(u8, &[u8], Kind); 18] = [
         (0, b"scallop surface 1", Kind::Form),
         (1, b"first 33", Kind::Range),
         (2, b"word 1 aA", Kind::NotReduced),
@@ -116,7 +116,7 @@ fn faults_of_lines(rt: HostRuntime) -> Result<(), Fail> {
         (26, b"end 1", Kind::Form),
         (27, b"end", Kind::Rest),
     ];
-    for (lines, line, kind) in &rows {
+    for (lines, line, kind) in &cases {
         let text = with_line(&rt, *lines, line)?;
         assert_eq!(rt;
             fault_of(&rt, text.as_slice()),

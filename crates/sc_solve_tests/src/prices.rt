@@ -98,7 +98,7 @@ fn lifted(
 #[test]
 fn prices_are_lifted(rt: HostRuntime) -> Result<(), Fail> {
     let alloc = rt.alloc();
-    let rows: [(&[u8], &[i128], &[i128], &[i128], &[i128]); 4] = [
+    let cases: [(&[u8], &[i128], &[i128], &[i128], &[i128]); 4] = [
         (b"abAB", &[-1, -1, 0], &[0, 0, 1], &[1], &[-5, -5]),
         (b"a A", &[-1, -1, 1], &[0, 0, 1], &[-3, 4], &[-3]),
         (
@@ -110,7 +110,7 @@ fn prices_are_lifted(rt: HostRuntime) -> Result<(), Fail> {
         ),
         (b"abAB", &[0, 0, 0], &[-7, 8, 9], &[9], &[-7, 8]),
     ];
-    for (text, bulk, fine, base, pair) in rows {
+    for (text, bulk, fine, base, pair) in cases {
         let Ok(list) = lifted(alloc, text, bulk, fine)? else {
             return Err(Fail::from("refused"));
         };
@@ -125,7 +125,7 @@ fn prices_are_lifted(rt: HostRuntime) -> Result<(), Fail> {
 fn wide_numbers_are_told(rt: HostRuntime) -> Result<(), Fail> {
     let alloc = rt.alloc();
     let (half, limit) = (1 << 126, 1 << 90);
-    let rows: [(i128, i128, Place, u32, u32, Op, i128, i128); 5] = [
+    let cases: [(i128, i128, Place, u32, u32, Op, i128, i128); 5] = [
         (-1, i128::MIN, Place::LiftTurn, 1, 0, Op::Sub, 0, i128::MIN),
         (-1, half, Place::LiftMul, 0, 0, Op::Mul, 4, half),
         (
@@ -141,7 +141,7 @@ fn wide_numbers_are_told(rt: HostRuntime) -> Result<(), Fail> {
         (0, limit, Place::LiftSize, 2, 0, Op::Size, limit, limit),
         (0, -limit, Place::LiftSize, 2, 0, Op::Size, -limit, limit),
     ];
-    for (bulk, fine, place, first, second, op, x, y) in rows {
+    for (bulk, fine, place, first, second, op, x, y) in cases {
         let own = if place == Place::LiftBulk { -2 } else { bulk };
         let Err(LiftFault::Wide(at)) = lifted(alloc, b"abAB", &[bulk, bulk, own], &[0, 0, fine])?
         else {
@@ -169,13 +169,13 @@ fn asked(alloc: Global, bulk: &[i128], fine: &[i128]) -> Result<Vec<u32>, Fail> 
 #[test]
 fn the_oracle_finds_the_polygon_of_a_commutator(rt: HostRuntime) -> Result<(), Fail> {
     let alloc = rt.alloc();
-    let rows: [(&[i128], &[i128], &[u32]); 4] = [
+    let cases: [(&[i128], &[i128], &[u32]); 4] = [
         (&[-1, -1, -1], &[0, 0, 0], &[0, 3, 2, 1]),
         (&[-1, -1, 0], &[0, 0, 1], &[]),
         (&[0, 0, 0], &[0, 0, 0], &[0, 3, 2, 1]),
         (&[0, 0, 1], &[0, 0, 0], &[]),
     ];
-    for (bulk, fine, wanted) in rows {
+    for (bulk, fine, wanted) in cases {
         let key = asked(alloc, bulk, fine)?;
         assert_eq!(rt; key.as_slice(), wanted);
     }
