@@ -3,7 +3,8 @@
 ghost use Rattle.std.specs.Prelude.{◌≡◌, ◌<◌, ◌^◌, length, MatchOption};
 ghost use Rattle.sc_two.specs.inside.Parts.{IsPart, IsFollowed};
 
-use crate::line::{is_separator, split_line};
+use crate::line::is_separator;
+use sc_words::split_line;
 
 /// The lines of a text before the first line whose only field is a slash.
 #[derive(Drop)]

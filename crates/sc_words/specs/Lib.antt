@@ -1,3 +1,4 @@
 pub mod Spelling
 pub mod ChainText
+pub mod Cuts
 pub mod inside

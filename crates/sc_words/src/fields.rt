@@ -3,9 +3,11 @@
 ghost use Rattle.std.specs.Prelude.{◌≡◌, not, position, MatchOption, [], ◌∷◌};
 ghost use Rattle.std.specs.Iterator.{YieldsFirstRef, item_count};
 ghost use Rattle.std.specs.Str.Lines.{strip_carriage_return};
+ghost use Rattle.sc_words.specs.Cuts.{IsCut};
 ghost use Rattle.sc_words.specs.ChainText as texts;
 
-fn is_blank(byte: u8) -> bool
+/// Whether a byte is a space or a tab.
+pub fn is_blank(byte: u8) -> bool
     ensures { result ≡ texts.is_blank byte }
 {
     matches!(byte, b' ' | b'\t')
@@ -45,8 +47,9 @@ fn split_field(bytes: &[u8]) -> Option<(&[u8], &[u8])>
 }
 
 /// The first line, and what is left behind it.
-fn split_line(text: &[u8]) -> Option<(&[u8], &[u8])>
-    ensures { MatchOption result (texts.text_lines text.now ≡ []) (λ x. texts.text_lines text.now ≡ x.0.now ∷ texts.text_lines x.1.now) }
+pub fn split_line(text: &[u8]) -> Option<(&[u8], &[u8])>
+    ensures lines { MatchOption result (texts.text_lines text.now ≡ []) (λ x. texts.text_lines text.now ≡ x.0.now ∷ texts.text_lines x.1.now) }
+    ensures cut { MatchOption result (text.now ≡ []) (λ x. IsCut text.now x.0.now x.1.now) }
 {
     if text.is_empty() {
         return None;

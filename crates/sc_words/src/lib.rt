@@ -9,6 +9,7 @@ pub mod limits;
 mod lines;
 mod word;
 
+pub use fields::{is_blank, split_line, without_carriage_return};
 pub use letter::{are_letters, inverse_of, is_inverse, letter_of, letters_of};
 pub use lines::{RawLine, read_lines};
 pub use sc_line::{Kind, TextFault};

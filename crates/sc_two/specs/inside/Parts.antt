@@ -1,18 +1,7 @@
--- A text cut behind its first line, and at its first line whose only field is a slash.
-use Rattle.std.specs.Prelude.{◌≡◌, ℕ, ◌+◌, ◌<◌, ◌≤◌, ◌⊎◌, true, false, List, [], ◌∷◌, ◌++◌, length, get_or}
+-- A text cut at its first line whose only field is a slash.
+use Rattle.std.specs.Prelude.{◌≡◌, ℕ, ◌+◌, ◌<◌, ◌≤◌, true, false, List, [], ◌∷◌, ◌++◌, length, get_or}
 use Rattle.sc_words.specs.ChainText.{Line, text_lines}
 use Rattle.sc_two.specs.TwoTexts.{is_separator}
-
--- other lines may follow the text: its lines and then theirs are those of both together
-abbrev pub IsWhole : List ℕ → Type 0
-IsWhole text = (more : List ℕ) → text_lines (text ++ more) ≡ text_lines text ++ text_lines more
-
--- a first line with its end, which only the last line of a text may lack, and the rest
-pub record IsCut (text : List ℕ) (line : Line) (rest : List ℕ) : Type 0 where
-  pub front : List ℕ
-  pub text_is : text ≡ front ++ rest
-  pub line_is : text_lines front ≡ line ∷ []
-  pub ended : IsWhole front ⊎ (rest ≡ [])
 
 -- none of the lines has a slash as its only field
 abbrev pub HasNone : List Line → Type 0

@@ -6,8 +6,8 @@ use Rattle.sc_two.proofs.Slashes.{bare, slash_is_lone, lone_at_end, other_byte}
 use Rattle.sc_two.proofs.line.is_separator.Goals as goal
 use Rattle.sc_two.proofs.line.is_separator.Goals.{else-byte-eq47-via-then-byte-eq47+else-not-found, else-byte-eq47-via-else-byte-eq47}
 
-pub returns-then-not-is_space_or_tab : goal.returns-then-not-is_space_or_tab
-returns-then-not-is_space_or_tab c =
+pub returns-then-not-is_blank : goal.returns-then-not-is_blank
+returns-then-not-is_blank c =
     let line : List ℕ = c.without_carriage_return-line.result.now in
     let other : is_blank (get_or line c.loop-byte.byte-index 0) ≡ false = search rules in
     let not_lone : (c.loop-byte.found ≡ true) ⊎ (get_or line c.loop-byte.byte-index 0 ≢ 47) =

@@ -14,16 +14,16 @@ pub overflow_add-count : goal.overflow_add-count
 overflow_add-count c = omega (arith, search_counts c.args.text.now c.loop-line.rest.now c.loop-line.count c.loop-line.invariant)
 
 pub loop-line-smaller : goal.loop-line-smaller
-loop-line-smaller c = cut_shorter c.loop-line.rest.now c.in-Some.behind.now c.in-Some.line.now c.in-Some.ensures
+loop-line-smaller c = cut_shorter c.loop-line.rest.now c.in-Some.behind.now c.in-Some.line.now c.in-Some.ensures.cut
 
 pub loop-line-preserved : goal.loop-line-preserved
 loop-line-preserved c =
-    search_goes_on c.args.text.now c.loop-line.rest.now c.in-Some.behind.now c.in-Some.line.now c.loop-line.count c.loop-line.invariant c.in-Some.ensures
+    search_goes_on c.args.text.now c.loop-line.rest.now c.in-Some.behind.now c.in-Some.line.now c.loop-line.count c.loop-line.invariant c.in-Some.ensures.cut
     (sym c.is_separator.ensures ∙ c.if-is_separator.false)
 
 pub returns-then-is_separator : goal.returns-then-is_separator
 returns-then-is_separator c =
-    let found = search_finds c.args.text.now c.loop-line.rest.now c.in-Some.behind.now c.in-Some.line.now c.loop-line.count c.loop-line.invariant c.in-Some.ensures
+    let found = search_finds c.args.text.now c.loop-line.rest.now c.in-Some.behind.now c.in-Some.line.now c.loop-line.count c.loop-line.invariant c.in-Some.ensures.cut
     (sym c.is_separator.ensures ∙ c.if-is_separator.true) in
     let front : take (length c.args.text.now - length c.loop-line.rest.now) c.args.text.now ≡ c.split_at.result.0.now = sym c.split_at.ensures.front in
     record {
@@ -34,6 +34,6 @@ returns-then-is_separator c =
 pub returns : goal.returns
 returns c =
     record {
-      part = search_ends c.args.text.now c.loop-line.rest.now c.loop-line.count c.loop-line.invariant c.in_default.ensures;
+      part = search_ends c.args.text.now c.loop-line.rest.now c.loop-line.count c.loop-line.invariant c.in_default.ensures.cut;
       rest = refl;
     }
