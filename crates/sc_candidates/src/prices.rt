@@ -33,18 +33,6 @@ pub(crate) struct Steps {
     places: Vec<Option<usize>>,
 }
 
-/// The row of the word that a position is the first of.
-fn word_row(chain: &Chain, pairs: usize, position: usize) -> Option<usize>
-    requires { position < positions chain.now }
-{
-    let word = chain.word_of(position);
-    if chain.first_of(word) == position {
-        Some(pairs.saturating_add(word))
-    } else {
-        None
-    }
-}
-
 impl Steps {
     /// No steps.
     pub(crate) fn none(alloc: Global) -> Steps {
@@ -71,7 +59,9 @@ impl Steps {
                 to,
                 pair,
                 sign,
-                word: word_row(chain, pairs.count(), to),
+                word: chain
+                    .word_begun_at(to)
+                    .map(|word| pairs.count().saturating_add(word)),
                 reach: next.abs_diff(to),
             })?;
         }

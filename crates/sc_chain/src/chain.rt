@@ -1,6 +1,6 @@
 //! Chains, and the lookup of their positions.
 
-ghost use Rattle.std.specs.Prelude.{◌≡◌, ◌≢◌, ◌<◌, ◌≤◌, ◌^◌, ◌+◌, ◌↔◌, length, IsTrue, IfOk, IfSome, IsNone, IsErrOf, OnOk, vec_len};
+ghost use Rattle.std.specs.Prelude.{◌≡◌, ◌≢◌, ◌<◌, ◌≤◌, ◌^◌, ◌+◌, ◌↔◌, length, IsTrue, IfOk, IfSome, IsNone, IsErrOf, OnOk, MatchOption, vec_len};
 ghost use Rattle.sc_theory.specs.Chains.{positions, weighted_length, letter, succ, prev, first, word_of, weight, chain_total, IsBalanced};
 ghost use Rattle.sc_theory.specs.Walks.{IsStep};
 ghost use Rattle.sc_chain.specs.declared.limits.TheConstants.{MAX_POSITIONS};
@@ -212,6 +212,21 @@ impl Chain {
         ensures in_range { result < length self.now }
     {
         self.places[i].word
+    }
+
+    /// The word that a position is the first of, where it is the first of one.
+    pub fn word_begun_at(&self, i: usize) -> Option<usize>
+        requires { i < positions self.now }
+        ensures word { MatchOption result (i ≢ first self.now (word_of self.now i))
+            (λ w. (w ≡ word_of self.now i) × (i ≡ first self.now w)) }
+        ensures in_range { IfSome result (λ w. w < length self.now) }
+    {
+        let word = self.word_of(i);
+        if i == self.first_of(word) {
+            Some(word)
+        } else {
+            None
+        }
     }
 
     /// The weight of a word.

@@ -31,11 +31,9 @@ fn base_price(chain: &Chain, list: &PriceList, j: usize) -> i128
     ensures price { result ≡ base_price chain.now list.now j }
     ensures small { IsPriceInRange result }
 {
-    let word = chain.word_of(j);
-    if j == chain.first_of(word) {
-        word_price(list, word)
-    } else {
-        0
+    match chain.word_begun_at(j) {
+        Some(word) => word_price(list, word),
+        None => 0,
     }
 }
 

@@ -45,18 +45,6 @@ fn surcharge(mode: Mode, reach: usize) -> i64 {
     }
 }
 
-/// The row of the word that a position is the first of.
-fn word_row(chain: &Chain, pairs: usize, position: usize) -> Option<usize>
-    requires { position < positions chain.now }
-{
-    let word = chain.word_of(position);
-    if chain.first_of(word) == position {
-        Some(pairs.saturating_add(word))
-    } else {
-        None
-    }
-}
-
 /// The steps from a position.
 fn steps_from(
     alloc: Global,
@@ -76,7 +64,9 @@ fn steps_from(
                 to,
                 pair,
                 entry: if sign == Sign::Plus { 1 } else { -1 },
-                word: word_row(chain, pairs.count(), to),
+                word: chain
+                    .word_begun_at(to)
+                    .map(|word| pairs.count().saturating_add(word)),
                 reach,
                 surcharge: surcharge(mode, reach),
             })?;

@@ -80,11 +80,9 @@ fn base_at<W: Weight>(chain: &Chain, base: &[W], position: usize) -> W
     requires base { length base.now ≡ length chain.now }
     ensures { W.levels result ≡ base_levels W.levels chain.now base.now position }
 {
-    let word = chain.word_of(position);
-    if chain.first_of(word) == position {
-        base[word]
-    } else {
-        W::zero()
+    match chain.word_begun_at(position) {
+        Some(word) => base[word],
+        None => W::zero(),
     }
 }
 
