@@ -1,7 +1,7 @@
 -- Laws of letters and words as bytes.
-use Rattle.std.proofs.Common.{◌≡◌, ◌≢◌, ℕ, ◌+◌, ◌-◌, ◌<◌, ◌≤◌, Bool, true, false, not, ◌&&◌, eqb, leb, ltb, List, [], ◌∷◌, length, Option, Some, None, is_some, ℤ, pos, refl, sym, ap, subst, ◌∙◌, arith, inl, inr}
+use Rattle.std.proofs.Common.{◌≡◌, ◌≢◌, ℕ, ◌+◌, ◌-◌, ◌<◌, ◌≤◌, Bool, true, false, not, ◌&&◌, eqb, leb, ltb, List, [], ◌∷◌, length, Option, Some, None, ℤ, pos, refl, sym, ap, subst, ◌∙◌, arith, inl, inr}
 use Rattle.std.specs.List.{AllByRecursion, list_all, filter_map}
-use Rattle.std.proofs.lemmas.Bool.{cases_Bool, leb-true, le-leb, lt-leb, lt-ltb, ltb-true, not-true, not-false, eqb-true, eqb-false, and_cases, and_parts, and_from, and_left, and_right, false≢true, ne_eqb}
+use Rattle.std.proofs.lemmas.Bool.{cases_Bool, le-leb, lt-leb, lt-ltb, ltb-true, not-true, not-false, eqb-true, eqb-false, and_cases, and_parts, and_from, and_left, and_right, false≢true, ne_eqb}
 use Rattle.std.proofs.lemmas.List.{length-map, nil_from_length}
 use Rattle.std.proofs.lemmas.Option.{same_Some, none-some}
 use Rattle.sc_theory.specs.declared.Letter.{Letter}
@@ -10,7 +10,8 @@ use Rattle.sc_words.specs.declared.limits.TheConstants.{GENERATORS}
 use Rattle.sc_text.specs.declared.limits.Limits.{Limits}
 use Rattle.sc_line.specs.declared.fault.Kind.TheVariants.{Form, Range, NotReduced}
 use Rattle.sc_line.specs.Lines.{Field}
-use Rattle.sc_words.specs.Spelling.{letter_byte, letter_of, with_first, word_of}
+use Rattle.sc_words.specs.Spelling.{letter_byte, letter_of, word_of}
+use Rattle.sc_words.proofs.SpellingLaws.{IsByteOf, are_letters, letter_back, word_from_letters}
 use Rattle.sc_text.specs.Words.{spelled, is_reduced, is_letter_of, word_within, weight_and_word_fault, weighted_word_fault}
 use Rattle.sc_line.specs.Faults.{between}
 use Rattle.sc_line.specs.Lines.{lacks}
@@ -20,29 +21,6 @@ abbrev HasGenerator : Letter → Type 0
 HasGenerator x = x.number < GENERATORS
 
 -- ---- a letter and its byte
-
-abbrev IsByteOf : ℕ → Letter → Type 0
-IsByteOf b x = (letter_byte x ≡ b) × HasGenerator x
-
--- the letter that a byte spells has this byte, and its generator is in range
-pub letter_back : (b : ℕ) (x : Letter) → letter_of b ≡ Some x → IsByteOf b x
-letter_back b x e =
-    elim (cases_Bool (leb 97 b && leb b 122)) [
-      | inl small ↦
-          let ends = and_parts _ _ small in
-          let low : 97 ≤ b = leb-true _ _ ends.0 in
-          let high : b ≤ 122 = leb-true _ _ ends.1 in
-          subst (IsByteOf b) (same_Some _ _ (rw small at e)) (omega arith, omega arith)
-      | inr other ↦
-          elim (cases_Bool (leb 65 b && leb b 90)) [
-            | inl capital ↦
-                let ends = and_parts _ _ capital in
-                let low : 65 ≤ b = leb-true _ _ ends.0 in
-                let high : b ≤ 90 = leb-true _ _ ends.1 in
-                subst (IsByteOf b) (same_Some _ _ (rw (other, capital) at e)) (omega arith, omega arith)
-            | inr neither ↦ absurd (none-some x (rw (other, neither) at e))
-          ]
-    ]
 
 abbrev letter : ℕ → Bool → Letter
 letter n inverse = record { number = n; inverse = inverse }
@@ -64,40 +42,13 @@ letter_again x h = letter_from x.number x.inverse h
 
 -- ---- a word and its bytes
 
-abbrev are_letters : List ℕ → Bool
-are_letters bs = list_all (λ b. is_some (letter_of b)) bs
-
--- bytes of which each spells a letter spell the word of these letters
-pub word_from_letters : (bs : List ℕ) → are_letters bs ≡ true → word_of bs ≡ Some (filter_map letter_of bs)
-word_from_letters [] h = refl
-word_from_letters (b ∷ bs) h =
-    let both = and_parts _ _ h in
-    let rest = word_from_letters bs both.1 in
-    elim (letter_of b) as (λ (o : Option Letter). letter_of b ≡ o → word_of (b ∷ bs) ≡ Some (filter_map letter_of (b ∷ bs))) [
-      | None ↦ λ e. absurd (let some : is_some (letter_of b) ≡ true = both.0 in let none : false ≡ true = rw e at some in false≢true none)
-      | Some x ↦ λ e. rw (e, rest) refl
-    ] refl
-
-with_none : (o : Option Letter) → with_first o None ≡ None
-with_none None = refl
-with_none (Some x) = refl
-
--- bytes of which one spells no letter spell no word
-pub word_from_others : (bs : List ℕ) → are_letters bs ≡ false → word_of bs ≡ None
-word_from_others [] h = absurd (false≢true (sym h))
-word_from_others (b ∷ bs) h =
-    elim (letter_of b) as (λ (o : Option Letter). letter_of b ≡ o → word_of (b ∷ bs) ≡ None) [
-      | None ↦ λ e. rw e refl
-      | Some x ↦ λ e. let others : are_letters bs ≡ false = rw e at h in rw (word_from_others bs others) (with_none (letter_of b))
-    ] refl
-
 -- the bytes are the spelling of the word, and the generators of its letters are in range
 pub record IsSpelling (bs : List ℕ) (w : Word) : Type 0 where
   pub bytes : spelled w ≡ bs
   pub letters : AllByRecursion HasGenerator w
 
 IsSpelling-cons : (b : ℕ) (bs : List ℕ) (x : Letter) (w : Word) → IsByteOf b x → IsSpelling bs w → IsSpelling (b ∷ bs) (x ∷ w)
-IsSpelling-cons b bs x w first rest = record { bytes = λ i. first.0 i ∷ rest.bytes i; letters = (first.1, rest.letters) }
+IsSpelling-cons b bs x w first rest = record { bytes = λ i. first.byte i ∷ rest.bytes i; letters = (first.generator, rest.letters) }
 
 -- bytes that spell a word are its spelling
 pub spelled_back : (bs : List ℕ) (w : Word) → word_of bs ≡ Some w → IsSpelling bs w
