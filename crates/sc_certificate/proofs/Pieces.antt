@@ -1,32 +1,24 @@
--- The pieces of a certificate text, and of its lines.
-use Rattle.std.proofs.Common.{◌≡◌, ℕ, ◌+◌, ◌<◌, ◌≤◌, take, drop, Option, zero-add, subst, List, [], ◌∷◌, ◌++◌, map, length, get_or, codes, pos, ℤ, sym, ap, ◌∙◌, append_assoc}
+-- The pieces of a certificate text.
+use Rattle.std.proofs.Common.{◌≡◌, ℕ, ◌+◌, ◌<◌, ◌≤◌, take, drop, Option, zero-add, subst, List, [], ◌∷◌, ◌++◌, length, get_or, codes, ℤ, sym, ap, ◌∙◌}
 use Rattle.std.specs.List.{flat_map, enumerate_from}
 use Rattle.std.proofs.lemmas.List.{take_all}
 use Rattle.std.proofs.lemmas.List.FromFn.{get_or-enumerate_from}
 use Rattle.std.proofs.lemmas.List.Concat.{flat_map-append}
 use Rattle.sc_theory.specs.Prices.{Tables, pairs}
 use Rattle.sc_text.specs.TableLines.{from_line}
-use Rattle.sc_whole.specs.Spelling.{spelling}
 use Rattle.sc_line.specs.Lines.{Line, ended, text_of, count_line}
 use Rattle.sc_text.specs.Surfaces.{ending}
 use Rattle.sc_text.specs.Printing.{words_lines, sides_lines}
-use Rattle.sc_text.specs.PriceLines.{scale_line, base_line}
 use Rattle.sc_text.specs.ValueLines.{value_line}
-use Rattle.sc_line.proofs.PrintLaws.{line_flat, pieces_at, pieces_more, part_after}
+use Rattle.sc_line.proofs.PrintLaws.{pieces_at, pieces_more, part_after}
 use Rattle.sc_line.specs.Printing.{AppendsPart}
-use Rattle.sc_certificate.specs.PivotLines.{pivot_line}
 use Rattle.sc_certificate.specs.Certificates.{Certificate, heading, certificate_text}
-use Rattle.sc_certificate.specs.Spelled.{list_lines, pair_lines, tables_lines, journal_lines}
+use Rattle.sc_certificate.specs.Spelled.{list_lines, list_text, tables_lines, journal_lines}
+use Rattle.sc_certificate.proofs.PrintedLines.{list_pieces}
 use Rattle.sc_certificate.proofs.SpelledLaws.{same_lines}
 use Rattle.sc_certificate.specs.declared.parts.Part.{Part}
 use Rattle.sc_certificate.specs.declared.parts.TheConstants.{PARTS}
 use Rattle.sc_certificate.specs.Parts.{part_text}
-
--- the pieces of the line of a pivot
-pub pivot_pieces : (row : ℕ) (walk : List ℕ) → ended (pivot_line (record { row = row; polygon = walk })) ≡ codes "pivot " ++ (spelling (pos row) ++ (flat_map (λ i. 32 ∷ spelling (pos i)) walk ++ 10 ∷ []))
-pivot_pieces row walk =
-    ap (λ (t : List ℕ). t ++ 10 ∷ []) (ap (λ (t : List ℕ). codes "pivot " ++ t) (line_flat (λ i. spelling (pos i)) (spelling (pos row)) walk))
-    ∙ ap (λ (t : List ℕ). codes "pivot " ++ t) (append_assoc (spelling (pos row)) (flat_map (λ i. 32 ∷ spelling (pos i)) walk) (10 ∷ []))
 
 lines_first : (ks ls : List Line) → text_of (ks ++ ls) ≡ text_of ks ++ text_of ls
 lines_first ks ls = flat_map-append ended ks ls
@@ -36,22 +28,18 @@ pub parts_are_text : (v : Certificate) → length v.list.pair ≡ length (pairs 
 parts_are_text v count =
     let words : List Line = words_lines v.chain in
     let sides : List Line = sides_lines v.sides in
-    let bases : List Line = map base_line v.list.base in
-    let prices : List Line = pair_lines (pairs v.chain) v.list.pair in
+    let list : List Line = list_lines v.chain v.list in
     let tables : List Line = tables_lines v.tables in
-    let pivots : List Line = map pivot_line v.journal in
-    let from_journal : List Line = journal_lines v.journal ++ ending ∷ [] in
+    let journal : List Line = journal_lines v.journal in
+    let from_journal : List Line = journal ++ ending ∷ [] in
     let from_tables : List Line = tables ++ from_journal in
-    let from_list : List Line = list_lines v.chain v.list ++ from_tables in
-    let journal = ap (λ (t : List ℕ). ended (count_line (codes "pivots") (length v.journal)) ++ t) (lines_first pivots (ending ∷ [])) in
-    let behind_list = lines_first tables from_journal ∙ ap (λ (t : List ℕ). text_of tables ++ t) journal in
-    let list =
-    ap (λ (t : List ℕ). ended (scale_line v.list.scale) ++ t)
-    (lines_first (bases ++ prices) from_tables
-    ∙ ap (λ (t : List ℕ). t ++ text_of from_tables) (lines_first bases prices)
-    ∙ append_assoc (text_of bases) (text_of prices) (text_of from_tables)
-    ∙ ap (λ (t : List ℕ). text_of bases ++ (text_of prices ++ t)) behind_list) in
-    let behind_value = lines_first sides from_list ∙ ap (λ (t : List ℕ). text_of sides ++ t) list in
+    let from_list : List Line = list ++ from_tables in
+    let behind_list = lines_first tables from_journal ∙ ap (λ (t : List ℕ). text_of tables ++ t) (lines_first journal (ending ∷ [])) in
+    let behind_sides =
+    lines_first list from_tables
+    ∙ ap (λ (t : List ℕ). t ++ text_of from_tables) (list_pieces v.chain v.list)
+    ∙ ap (λ (t : List ℕ). list_text (pairs v.chain) v.list ++ t) behind_list in
+    let behind_value = lines_first sides from_list ∙ ap (λ (t : List ℕ). text_of sides ++ t) behind_sides in
     ap text_of (same_lines v count)
     ∙ ap (λ (t : List ℕ). ended heading ++ t)
     (lines_first words (value_line v.value ∷ count_line (codes "copies") v.copies ∷ (sides ++ from_list))

@@ -22,7 +22,7 @@ pub use laws::{
     faultless_is_certificate_text, pivot_lines_are_a_kind, printed_certificates_are_read,
 };
 pub use price_list::PriceList;
-pub use printing::print_list;
+pub use printing::{print_journal, print_list};
 pub use tables::{Table, Tables};
 
 #[cfg(test)]

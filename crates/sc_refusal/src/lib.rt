@@ -1,7 +1,6 @@
 //! The texts of refusals of a solver: each has the chain and the pivots that were made, and why there was no going on.
 #![tactic(auto)]
 
-mod fields;
 mod lines;
 mod places;
 mod texts;

@@ -5,11 +5,11 @@ ghost use Rattle.std.specs.Option.{option_map};
 ghost use Rattle.std.specs.Vec.{vec_items};
 ghost use Rattle.sc_chain.specs.Faults.{IsSmallChain};
 ghost use Rattle.sc_line.specs.Lines.{ended, text_of};
-ghost use Rattle.sc_certificate.specs.PivotLines.{pivot_line};
-ghost use Rattle.sc_certificate.specs.Spelled.{journal_lines};
+ghost use Rattle.sc_refusal.specs.Places.{place_line};
 ghost use Rattle.sc_refusal.specs.Texts as texts;
 
-use crate::fields::{place_fields, push_numbers};
+use crate::places::{index_count, level_name, level_of, place_name};
+use sc_certificate::print_journal;
 use sc_chain::{Chain, Pivot, Word};
 use sc_fraction::Frac;
 use sc_rows::WideAt;
@@ -24,9 +24,7 @@ pub(crate) fn print_walk_line(
 ) -> Result<(), AllocError>
     ensures { OnOk result (out.new.items ≡ out.old.items ++ ended (texts.walk_line name.now walk.now)) }
 {
-    let mut fields = Vec::new(*out.allocator());
-    push_numbers(&mut fields, walk)?;
-    print_line(name, fields.as_slice(), out)
+    print_line(name, &[Field::Numbers(walk)], out)
 }
 
 /// Appends the line of a walk, where one is told.
@@ -53,12 +51,27 @@ fn print_told_row(name: &[u8], row: Option<u32>, out: &mut Vec<u8>) -> Result<()
     }
 }
 
+/// Appends the line of a place: its name, its level, where it has one, and its indices.
+fn print_place_line(at: &WideAt, out: &mut Vec<u8>) -> Result<(), AllocError>
+    ensures { OnOk result (out.new.items ≡ out.old.items ++ ended (place_line at.now.place at.now.first at.now.second)) }
+{
+    let name = Field::Text(place_name(at.place));
+    let both = [at.first, at.second];
+    let indices = Field::Numbers(&both[..index_count(at.place)]);
+    match level_of(at.place) {
+        Some(level) => {
+            let fields = [name, Field::Text(level_name(level)), indices];
+            print_line(b"place", &fields, out)
+        }
+        None => print_line(b"place", &[name, indices], out),
+    }
+}
+
 /// Appends the line of a place and that of its operands.
 fn print_operation(at: &WideAt, out: &mut Vec<u8>) -> Result<(), AllocError>
     ensures { OnOk result (out.new.items ≡ out.old.items ++ text_of (texts.operation_lines at.now)) }
 {
-    let fields = place_fields(*out.allocator(), at)?;
-    print_line(b"place", fields.as_slice(), out)?;
+    print_place_line(at, out)?;
     let operands = [Field::Number(at.wide.x), Field::Number(at.wide.y)];
     print_line(b"operands", &operands, out)
 }
@@ -71,25 +84,6 @@ pub(crate) fn print_wide_lines(at: &WideAt, out: &mut Vec<u8>) -> Result<(), All
     print_told_row(b"leaving", at.leaving, out)?;
     print_told_walk(b"walk", &at.walk, out)?;
     print_operation(at, out)
-}
-
-fn print_pivot_line(pivot: &Pivot, out: &mut Vec<u8>) -> Result<(), AllocError>
-    ensures { OnOk result (out.new.items ≡ out.old.items ++ ended (pivot_line pivot.now)) }
-{
-    let mut fields = Vec::from_slice(*out.allocator(), &[Field::Number(i128::from(pivot.row))])?;
-    push_numbers(&mut fields, pivot.polygon.walk())?;
-    print_line(b"pivot", fields.as_slice(), out)
-}
-
-/// Appends the lines of a journal: how many pivots there are, and the pivots.
-fn print_journal(journal: &[Pivot], out: &mut Vec<u8>) -> Result<(), AllocError>
-    ensures { OnOk result (out.new.items ≡ out.old.items ++ text_of (journal_lines journal.now)) }
-{
-    print_count_line(b"pivots", journal.len() as u64, out)?;
-    for pivot in journal {
-        print_pivot_line(pivot, out)?;
-    }
-    Ok(())
 }
 
 // The words of a chain, each behind its weight.

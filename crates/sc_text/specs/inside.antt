@@ -1,3 +1,4 @@
 -- Definitions that no clause of a public function needs.
+pub mod Printing
 pub mod SurfaceRead
 pub mod TableLines

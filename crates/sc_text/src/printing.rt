@@ -2,11 +2,14 @@
 
 ghost use Rattle.std.specs.Prelude.{◌≡◌, ◌<◌, ◌++◌, ◌∷◌, [], map, pos, codes, All, OnOk, OnErr};
 ghost use Rattle.std.specs.List.{flat_map};
+ghost use Rattle.sc_whole.specs.Spelling.{spelling};
 ghost use Rattle.sc_words.specs.declared.limits.TheConstants.{GENERATORS};
-ghost use Rattle.sc_words.specs.Spelling as spelling;
+ghost use Rattle.sc_words.specs.Spelling as letter_spelling;
 ghost use Rattle.sc_line.specs.Lines.{ended, text_of, spaced, count_line};
 ghost use Rattle.sc_line.specs.Printing.{AppendsPart};
-ghost use Rattle.sc_text.specs.Printing.{field_of, AreSpellable};
+ghost use Rattle.sc_text.specs.Printing.{fields_of, AreSpellable};
+ghost use Rattle.sc_text.specs.inside.Printing.{numbers_bytes, entries_bytes, field_bytes};
+ghost use Rattle.sc_text.specs.TableLines.{entry_field};
 ghost use Rattle.sc_text.specs.Words as words;
 ghost use Rattle.sc_text.specs.Sides as side_lines;
 ghost use Rattle.sc_text.specs.Surfaces as surfaces;
@@ -18,7 +21,7 @@ use sc_theory::Side;
 use sc_whole::print_decimal;
 use std::alloc::AllocError;
 
-/// A field of a line.
+/// What stands in a line behind its name: a field, or a run of fields.
 #[derive(Clone, Copy, Debug)]
 pub enum Field<'a> {
     /// Bytes as they are.
@@ -29,11 +32,15 @@ pub enum Field<'a> {
     Letters(&'a [Letter]),
     /// A fraction as `NUM/DEN`.
     Fraction(&'a Frac),
+    /// Numbers, a field each.
+    Numbers(&'a [u32]),
+    /// The entries of a distance table, a field each: a number, or `-` for none.
+    Entries(&'a [Option<i128>]),
 }
 
 fn letter_byte(letter: Letter) -> u8
     requires { letter.number < GENERATORS }
-    ensures { result ≡ spelling.letter_byte letter }
+    ensures { result ≡ letter_spelling.letter_byte letter }
 {
     let first = if letter.inverse { b'A' } else { b'a' };
     first + letter.number
@@ -50,28 +57,77 @@ fn print_letters(letters: &[Letter], out: &mut Vec<u8>) -> Result<(), AllocError
     Ok(())
 }
 
+fn print_number(number: i128, out: &mut Vec<u8>) -> Result<(), AllocError>
+    ensures ok { OnOk result (out.new.items ≡ out.old.items ++ (32 ∷ spelling number)) }
+    ensures err { OnErr result (AppendsPart out.old.items out.new.items (32 ∷ spelling number)) }
+{
+    out.push(b' ')?;
+    print_decimal(number, out)
+}
+
+fn print_numbers(numbers: &[u32], out: &mut Vec<u8>) -> Result<(), AllocError>
+    ensures ok { OnOk result (out.new.items ≡ out.old.items ++ numbers_bytes numbers.now) }
+    ensures err { OnErr result (AppendsPart out.old.items out.new.items (numbers_bytes numbers.now)) }
+{
+    for number in numbers {
+        print_number(i128::from(*number), out)?;
+    }
+    Ok(())
+}
+
+fn print_entry(entry: Option<i128>, out: &mut Vec<u8>) -> Result<(), AllocError>
+    ensures ok { OnOk result (out.new.items ≡ out.old.items ++ (32 ∷ entry_field entry)) }
+    ensures err { OnErr result (AppendsPart out.old.items out.new.items (32 ∷ entry_field entry)) }
+{
+    match entry {
+        Some(number) => print_number(number, out),
+        None => out.extend_from_slice(b" -"),
+    }
+}
+
+fn print_entries(entries: &[Option<i128>], out: &mut Vec<u8>) -> Result<(), AllocError>
+    ensures ok { OnOk result (out.new.items ≡ out.old.items ++ entries_bytes entries.now) }
+    ensures err { OnErr result (AppendsPart out.old.items out.new.items (entries_bytes entries.now)) }
+{
+    for entry in entries {
+        print_entry(*entry, out)?;
+    }
+    Ok(())
+}
+
+/// Appends the fields, each behind a space.
 fn print_field(field: Field, out: &mut Vec<u8>) -> Result<(), AllocError>
     requires { AreSpellable field }
-    ensures ok { OnOk result (out.new.items ≡ out.old.items ++ field_of field.entry) }
-    ensures err { OnErr result (AppendsPart out.old.items out.new.items (field_of field.entry)) }
+    ensures ok { OnOk result (out.new.items ≡ out.old.items ++ field_bytes field.entry) }
+    ensures err { OnErr result (AppendsPart out.old.items out.new.items (field_bytes field.entry)) }
 {
     match field {
-        Field::Text(text) => out.extend_from_slice(text),
-        Field::Number(number) => print_decimal(number, out),
-        Field::Letters(letters) => print_letters(letters, out),
-        Field::Fraction(fraction) => fraction.print(out),
+        Field::Text(text) => {
+            out.push(b' ')?;
+            out.extend_from_slice(text)
+        }
+        Field::Number(number) => print_number(number, out),
+        Field::Letters(letters) => {
+            out.push(b' ')?;
+            print_letters(letters, out)
+        }
+        Field::Fraction(fraction) => {
+            out.push(b' ')?;
+            fraction.print(out)
+        }
+        Field::Numbers(numbers) => print_numbers(numbers, out),
+        Field::Entries(entries) => print_entries(entries, out),
     }
 }
 
 /// Appends a line of a name and fields.
 pub fn print_line(name: &[u8], fields: &[Field], out: &mut Vec<u8>) -> Result<(), AllocError>
     requires { All AreSpellable fields.now }
-    ensures ok { OnOk result (out.new.items ≡ out.old.items ++ ended (spaced (name.now ∷ map field_of fields.now))) }
-    ensures err { OnErr result (AppendsPart out.old.items out.new.items (ended (spaced (name.now ∷ map field_of fields.now)))) }
+    ensures ok { OnOk result (out.new.items ≡ out.old.items ++ ended (spaced (name.now ∷ flat_map fields_of fields.now))) }
+    ensures err { OnErr result (AppendsPart out.old.items out.new.items (ended (spaced (name.now ∷ flat_map fields_of fields.now)))) }
 {
     out.extend_from_slice(name)?;
     for field in fields {
-        out.push(b' ')?;
         print_field(*field, out)?;
     }
     out.push(b'\n')?;

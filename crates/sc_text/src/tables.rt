@@ -10,8 +10,8 @@ ghost use Rattle.sc_text.specs.inside.TableLines.{entry_fault};
 ghost use Rattle.sc_text.specs.TableLines as lines;
 
 use crate::limits::MAX_ENTRY;
+use crate::printing::{Field, print_line};
 use sc_line::{Fields, Kind, LineFault, number_of, within};
-use sc_whole::print_decimal;
 use std::alloc::{AllocError, Global};
 
 // The entry of a field: a number, or `-` for none.
@@ -67,28 +67,6 @@ pub fn from_line(
     entries(alloc, fields, count)
 }
 
-// Appends a space and the field of an entry.
-fn print_entry(entry: Option<i128>, out: &mut Vec<u8>) -> Result<(), AllocError>
-    ensures ok { OnOk result (out.new.items ≡ out.old.items ++ (32 ∷ entry_field entry)) }
-    ensures err { OnErr result (AppendsPart out.old.items out.new.items (32 ∷ entry_field entry)) }
-{
-    out.push(b' ')?;
-    match entry {
-        Some(number) => print_decimal(number, out),
-        None => out.extend_from_slice(b"-"),
-    }
-}
-
-fn print_entries(entries: &[Option<i128>], out: &mut Vec<u8>) -> Result<(), AllocError>
-    ensures ok { OnOk result (out.new.items ≡ out.old.items ++ flat_map (λ e. 32 ∷ entry_field e) entries.now) }
-    ensures err { OnErr result (AppendsPart out.old.items out.new.items (flat_map (λ e. 32 ∷ entry_field e) entries.now)) }
-{
-    for entry in entries {
-        print_entry(*entry, out)?;
-    }
-    Ok(())
-}
-
 /// Appends the line of the table of a start.
 pub fn print_from_line(
     start: u32,
@@ -98,9 +76,6 @@ pub fn print_from_line(
     ensures ok { OnOk result (out.new.items ≡ out.old.items ++ ended (lines.from_line start entries.now)) }
     ensures err { OnErr result (AppendsPart out.old.items out.new.items (ended (lines.from_line start entries.now))) }
 {
-    out.extend_from_slice(b"from ")?;
-    print_decimal(i128::from(start), out)?;
-    print_entries(entries, out)?;
-    out.push(b'\n')?;
-    Ok(())
+    let fields = [Field::Number(i128::from(start)), Field::Entries(entries)];
+    print_line(b"from", &fields, out)
 }

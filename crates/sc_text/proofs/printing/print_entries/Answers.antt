@@ -1,7 +1,7 @@
 use Rattle.std.proofs.Common.{◌∷◌}
 use Rattle.sc_text.specs.TableLines.{entry_field}
 use Rattle.sc_line.proofs.PrintLaws.{part_after, pieces_at, on_err}
-use Rattle.sc_text.proofs.tables.print_entries.Goals as goal
+use Rattle.sc_text.proofs.printing.print_entries.Goals as goal
 
 pub returns-in_err-print_entry-clause-err : goal.returns-in_err-print_entry-clause-err
 returns-in_err-print_entry-clause-err c =
