@@ -11,12 +11,12 @@ use Rattle.sc_app.specs.Notes.{line}
 
 -- how the line of a kind of flaw begins
 abbrev pub flaw_label : FlawKind → List ℕ
-flaw_label Range = codes "rejected range "
-flaw_label Mate = codes "rejected mate "
-flaw_label Letter = codes "rejected letter "
-flaw_label Next = codes "rejected next "
-flaw_label Label = codes "rejected label "
-flaw_label Count = codes "rejected count "
+flaw_label Range = codes "rejected range"
+flaw_label Mate = codes "rejected mate"
+flaw_label Letter = codes "rejected letter"
+flaw_label Next = codes "rejected next"
+flaw_label Label = codes "rejected label"
+flaw_label Count = codes "rejected count"
 
 -- how the line of a flaw of tables begins
 abbrev pub table_label : List ℕ
@@ -29,7 +29,7 @@ table_flaw (Step s i j) = spelling (pos s) ++ 32 ∷ (spelling (pos i) ++ 32 ∷
 
 -- the line of the first condition that fails
 abbrev pub rejection : Condition → List ℕ
-rejection (Flaw kind place) = line (flaw_label kind ++ spelling (pos place))
+rejection (Flaw kind place) = line (flaw_label kind ++ 32 ∷ spelling (pos place))
 rejection Value = line (codes "rejected value")
 rejection (Table flaw) = line (table_label ++ table_flaw flaw)
 rejection NotTight = line (codes "rejected tight")

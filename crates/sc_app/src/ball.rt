@@ -16,9 +16,10 @@ ghost use Rattle.sc_fan.specs.FanRead.{fan_said};
 ghost use Rattle.sc_ball.specs.Faults.{IsBallFault, quadrant_of};
 ghost use Rattle.sc_ball_refusal.specs.Texts.{search_said};
 ghost use Rattle.sc_app.specs.Answer.{status_of, text_of};
-ghost use Rattle.sc_app.specs.Ball.{BallResponds, IsBallOf, IsBallOfLines, IsToldOfDirection, Shows, infinite_in};
+ghost use Rattle.sc_app.specs.Ball.{BallResponds, IsBallOf, IsBallOfLines, IsToldOfDirection, Shows};
 
 use crate::answer::Answer;
+use crate::infinite::infinite_line;
 use crate::limits::MAX_CHAIN_BYTES;
 use sc_ball::{BallFault, ball};
 use sc_ball_refusal::{Search, budget_text, cross_text, length_text, sides_text, wide_text};
@@ -29,28 +30,7 @@ use sc_fan::Fan;
 use sc_reduce::reduce_lines;
 use sc_solve::SolveFault;
 use sc_two::read_two;
-use sc_whole::print_decimal;
 use std::alloc::{AllocError, Global};
-
-/// The line for a generator and its total in the chain of a name.
-fn infinite_line(
-    alloc: Global,
-    name: &[u8],
-    generator: u8,
-    total: i64,
-) -> Result<Vec<u8>, AllocError>
-    requires { generator < 26 }
-    ensures { IfOk result (λ text. text.items ≡ infinite_in name.now generator total) }
-{
-    let mut text = Vec::from_slice(alloc, b"infinite ")?;
-    text.extend_from_slice(name)?;
-    text.push(b' ')?;
-    text.push(b'a' + generator)?;
-    text.push(b' ')?;
-    print_decimal(i128::from(total), &mut text)?;
-    text.push(b'\n')?;
-    Ok(text)
-}
 
 /// The quadrant of a search: the one that begins with its first direction.
 fn quadrant_of_search(search: &[Reached]) -> Quadrant
@@ -229,10 +209,10 @@ fn answer_chains(
     ensures { IfOk result (λ answer. IsBallOf pivots first.now second.now (status_of answer) (text_of answer)) }
 {
     if let Some((generator, total)) = first.first_unbalanced() {
-        return Ok(Answer::Text(infinite_line(alloc, b"first", generator, total)?));
+        return Ok(Answer::Text(infinite_line(alloc, b"infinite first", generator, total)?));
     }
     if let Some((generator, total)) = second.first_unbalanced() {
-        return Ok(Answer::Text(infinite_line(alloc, b"second", generator, total)?));
+        return Ok(Answer::Text(infinite_line(alloc, b"infinite second", generator, total)?));
     }
     ball_between(alloc, first, second, pivots)
 }

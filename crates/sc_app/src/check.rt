@@ -9,15 +9,15 @@ use crate::answer::Answer;
 use crate::rejection::rejected;
 use sc_fraction::Frac;
 use sc_prices::{Certificate, Verdict, judge};
+use sc_text::{Field, print_line};
 use std::alloc::{AllocError, Global};
 
 /// The line of a least value.
 fn optimal_text(alloc: Global, value: &Frac) -> Result<Vec<u8>, AllocError>
     ensures { IfOk result (λ text. text.items ≡ optimal (numerator value.now, denominator value.now)) }
 {
-    let mut text = Vec::from_slice(alloc, b"optimal ")?;
-    value.print(&mut text)?;
-    text.push(b'\n')?;
+    let mut text = Vec::new(alloc);
+    print_line(b"optimal", &[Field::Fraction(value)], &mut text)?;
     Ok(text)
 }
 

@@ -1,69 +1,60 @@
 //! The answers of conditions that fail.
 
-ghost use Rattle.std.specs.Prelude.{◌≡◌, ◌++◌, pos, IfOk, OnOk};
-ghost use Rattle.sc_whole.specs.Spelling.{spelling};
-ghost use Rattle.sc_prices.specs.declared.flaws.TableFlaw.TheVariants as table_flaws;
+ghost use Rattle.std.specs.Prelude.{◌≡◌, ◌++◌, IfOk, OnOk};
 ghost use Rattle.sc_prices.specs.declared.verdict.Condition.TheVariants as conditions;
 ghost use Rattle.sc_app.specs.declared.status.Status.TheVariants as statuses;
 ghost use Rattle.sc_app.specs.Rejections.{flaw_label, rejection};
 ghost use Rattle.sc_app.specs.Answer.{status_of, text_of};
 
 use crate::answer::Answer;
-use crate::printing::append_number_line;
 use sc_fatgraph::FlawKind;
 use sc_prices::{Condition, TableFlaw};
-use sc_whole::print_decimal;
+use sc_text::{Field, print_line};
 use std::alloc::{AllocError, Global};
 
+/// How the line of a kind of flaw begins.
 fn flaw_label(kind: FlawKind) -> &'static [u8]
     ensures { result.now ≡ flaw_label kind }
 {
     match kind {
-        FlawKind::Range => b"rejected range ",
-        FlawKind::Mate => b"rejected mate ",
-        FlawKind::Letter => b"rejected letter ",
-        FlawKind::Next => b"rejected next ",
-        FlawKind::Label => b"rejected label ",
-        FlawKind::Count => b"rejected count ",
+        FlawKind::Range => b"rejected range",
+        FlawKind::Mate => b"rejected mate",
+        FlawKind::Letter => b"rejected letter",
+        FlawKind::Next => b"rejected next",
+        FlawKind::Label => b"rejected label",
+        FlawKind::Count => b"rejected count",
     }
 }
 
-fn append_number(out: &mut Vec<u8>, number: u32) -> Result<(), AllocError>
-    ensures { OnOk result (out.new.items ≡ out.old.items ++ spelling (pos number)) }
+/// Appends the line of a flaw of tables.
+fn print_table_flaw(flaw: TableFlaw, out: &mut Vec<u8>) -> Result<(), AllocError>
+    ensures { OnOk result (out.new.items ≡ out.old.items ++ rejection (conditions.Table flaw)) }
 {
-    print_decimal(i128::from(number), out)
-}
-
-/// Appends the line of a step that tables don't vouch for.
-fn append_step_line(out: &mut Vec<u8>, start: u32, from: u32, to: u32) -> Result<(), AllocError>
-    ensures { OnOk result (out.new.items ≡ out.old.items ++ rejection (conditions.Table (table_flaws.Step start from to))) }
-{
-    out.extend_from_slice(b"rejected table ")?;
-    append_number(out, start)?;
-    out.push(b' ')?;
-    append_number(out, from)?;
-    out.push(b' ')?;
-    append_number(out, to)?;
-    out.push(b'\n')?;
-    Ok(())
+    match flaw {
+        TableFlaw::Start { start } => {
+            print_line(b"rejected table", &[Field::Numbers(&[start])], out)
+        }
+        TableFlaw::Step { start, from, to } => {
+            print_line(
+                b"rejected table",
+                &[Field::Numbers(&[start, from, to])],
+                out,
+            )
+        }
+    }
 }
 
 /// Appends the line of a condition that fails.
-fn append_rejection(out: &mut Vec<u8>, condition: Condition) -> Result<(), AllocError>
+fn print_rejection(condition: Condition, out: &mut Vec<u8>) -> Result<(), AllocError>
     ensures { OnOk result (out.new.items ≡ out.old.items ++ rejection condition) }
 {
     match condition {
         Condition::Flaw { kind, place } => {
-            append_number_line(out, flaw_label(kind), i128::from(place))
+            print_line(flaw_label(kind), &[Field::Number(i128::from(place))], out)
         }
-        Condition::Value => out.extend_from_slice(b"rejected value\n"),
-        Condition::Table(TableFlaw::Start { start }) => {
-            append_number_line(out, b"rejected table ", i128::from(start))
-        }
-        Condition::Table(TableFlaw::Step { start, from, to }) => {
-            append_step_line(out, start, from, to)
-        }
-        Condition::NotTight => out.extend_from_slice(b"rejected tight\n"),
+        Condition::Value => print_line(b"rejected value", &[], out),
+        Condition::Table(flaw) => print_table_flaw(flaw, out),
+        Condition::NotTight => print_line(b"rejected tight", &[], out),
     }
 }
 
@@ -73,6 +64,6 @@ pub fn rejected(alloc: Global, condition: Condition) -> Result<Answer, AllocErro
     ensures text { IfOk result (λ answer. text_of answer ≡ rejection condition) }
 {
     let mut text = Vec::new(alloc);
-    append_rejection(&mut text, condition)?;
+    print_rejection(condition, &mut text)?;
     Ok(Answer::Rejection { condition, text })
 }

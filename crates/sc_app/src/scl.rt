@@ -1,37 +1,23 @@
 //! The command `scl`.
 
 ghost use Rattle.std.specs.Prelude.{◌≡◌, ◌≤◌, ◌+◌, ◌<◌, ◌++◌, ◌∷◌, length, codes, IfOk, OnOk};
-ghost use Rattle.sc_whole.specs.Spelling.{spelling};
 ghost use Rattle.sc_theory.specs.Chains.{IsBalanced};
 ghost use Rattle.sc_text.specs.Surfaces.{IsChainInRange};
 ghost use Rattle.sc_text.specs.declared.limits.TheConstants.{MAX_PIVOTS};
 ghost use Rattle.sc_certificate.specs.Certificates.{IsCertificateInRange, certificate_text};
 ghost use Rattle.sc_solve.specs.Solutions.{certificate_of};
 ghost use Rattle.sc_app.specs.Answer.{status_of, text_of};
-ghost use Rattle.sc_app.specs.Scl.{SclResponds, IsValueOf, IsToldBy, infinite};
+ghost use Rattle.sc_app.specs.Scl.{SclResponds, IsValueOf, IsToldBy};
 
 use crate::answer::Answer;
+use crate::infinite::infinite_line;
 use crate::limits::MAX_CHAIN_BYTES;
 use sc_chain::{Chain, ChainFault, read_lines};
 use sc_prices::Certificate;
 use sc_reduce::reduce_lines;
 use sc_refusal::{budget_text, sides_text, wide_text};
 use sc_solve::{Solution, SolveFault, extremal};
-use sc_whole::print_decimal;
 use std::alloc::{AllocError, Global};
-
-/// The line for a generator and its total.
-fn infinite_line(alloc: Global, generator: u8, total: i64) -> Result<Vec<u8>, AllocError>
-    requires { generator < 26 }
-    ensures { IfOk result (λ text. text.items ≡ infinite generator total) }
-{
-    let mut text = Vec::from_slice(alloc, b"infinite ")?;
-    text.push(b'a' + generator)?;
-    text.push(b' ')?;
-    print_decimal(i128::from(total), &mut text)?;
-    text.push(b'\n')?;
-    Ok(text)
-}
 
 /// The text of a solution as a certificate over its chain.
 fn certificate_text(alloc: Global, chain: Chain, solution: Solution) -> Result<Vec<u8>, AllocError>
@@ -122,7 +108,10 @@ fn value_of(alloc: Global, chain: Chain, pivots: u32) -> Result<Answer, AllocErr
 {
     match chain.first_unbalanced() {
         None => solve(alloc, chain, pivots),
-        Some((generator, total)) => Ok(Answer::Text(infinite_line(alloc, generator, total)?)),
+        Some((generator, total)) => {
+            let line = infinite_line(alloc, b"infinite", generator, total)?;
+            Ok(Answer::Text(line))
+        }
     }
 }
 

@@ -13,7 +13,7 @@ use sc_text::{Field, print_line};
 use std::alloc::{AllocError, Global};
 
 /// Appends the line of a boundary.
-fn append_boundary_line(out: &mut Vec<u8>, boundary: &Boundary) -> Result<(), AllocError>
+fn print_boundary_line(boundary: &Boundary, out: &mut Vec<u8>) -> Result<(), AllocError>
     ensures { OnOk result (out.new.items ≡ out.old.items ++ lines.ended (boundary_line boundary.now)) }
 {
     let fields = [
@@ -31,14 +31,14 @@ fn counted(count: usize) -> i128
 }
 
 /// Appends the line of a component that has these numbers.
-fn append_counts_line(
-    out: &mut Vec<u8>,
+fn print_counts_line(
     number: i128,
     sides: i128,
     vertices: i128,
     edges: i128,
     euler: i128,
     boundaries: i128,
+    out: &mut Vec<u8>,
 ) -> Result<(), AllocError>
     ensures { OnOk result (out.new.items ≡ out.old.items ++ lines.ended (counts_line number sides vertices edges euler boundaries)) }
 {
@@ -59,35 +59,35 @@ fn append_counts_line(
 }
 
 /// Appends the line of a component's counts.
-fn append_component_line(
-    out: &mut Vec<u8>,
+fn print_component_line(
     number: usize,
     component: &Component,
+    out: &mut Vec<u8>,
 ) -> Result<(), AllocError>
     ensures { OnOk result (out.new.items ≡ out.old.items ++ lines.ended (component_line number component.now)) }
 {
-    append_counts_line(
-        out,
+    print_counts_line(
         counted(number),
         i128::from(component.sides),
         i128::from(component.vertices),
         i128::from(component.edges),
         i128::from(euler_of(component)),
         counted(component.boundaries.len()),
+        out,
     )
 }
 
 /// Appends the lines of a component: its own, and those of its boundaries.
-fn append_component(
-    out: &mut Vec<u8>,
+fn print_component(
     number: usize,
     component: &Component,
+    out: &mut Vec<u8>,
 ) -> Result<(), AllocError>
     ensures { OnOk result (out.new.items ≡ out.old.items ++ lines.text_of (component_lines number component.now)) }
 {
-    append_component_line(out, number, component)?;
+    print_component_line(number, component, out)?;
     for boundary in component.boundaries.as_slice() {
-        append_boundary_line(out, boundary)?;
+        print_boundary_line(boundary, out)?;
     }
     Ok(())
 }
@@ -98,7 +98,7 @@ fn text_of_components(alloc: Global, components: &[Component]) -> Result<Vec<u8>
 {
     let mut text = Vec::new(alloc);
     for (number, component) in components.iter().enumerate() {
-        append_component(&mut text, number, component)?;
+        print_component(number, component, &mut text)?;
     }
     Ok(text)
 }

@@ -1,25 +1,29 @@
 //! The command `surface`.
 
-ghost use Rattle.std.specs.Prelude.{◌≡◌, ◌++◌, IfOk, OnOk};
+ghost use Rattle.std.specs.Prelude.{◌≡◌, ◌++◌, ◌∷◌, [], IfOk, OnOk};
 ghost use Rattle.sc_fraction.specs.Frac.{frac_text};
+ghost use Rattle.sc_line.specs.Lines.{ended, numbers_line};
 ghost use Rattle.sc_app.specs.Notes.{line};
 ghost use Rattle.sc_app.specs.Answer.{status_of, text_of};
 ghost use Rattle.sc_app.specs.Surface.{SurfaceResponds, IsReport, fraction_label};
 
 use crate::answer::Answer;
-use crate::printing::append_number_line;
 use crate::said::{Said, read_fatgraph};
 use sc_fatgraph::{Fatgraph, fraction};
 use sc_fraction::Frac;
+use sc_text::{Field, print_line};
 use std::alloc::{AllocError, Global};
 
-fn append_fraction_line(out: &mut Vec<u8>, fraction: &Frac) -> Result<(), AllocError>
+fn print_number_line(name: &[u8], number: i128, out: &mut Vec<u8>) -> Result<(), AllocError>
+    ensures { OnOk result (out.new.items ≡ out.old.items ++ ended (numbers_line name.now (number ∷ []))) }
+{
+    print_line(name, &[Field::Number(number)], out)
+}
+
+fn print_fraction_line(fraction: &Frac, out: &mut Vec<u8>) -> Result<(), AllocError>
     ensures { OnOk result (out.new.items ≡ out.old.items ++ line (fraction_label ++ frac_text fraction.now)) }
 {
-    out.extend_from_slice(b"fraction ")?;
-    fraction.print(out)?;
-    out.push(b'\n')?;
-    Ok(())
+    print_line(b"fraction", &[Field::Fraction(fraction)], out)
 }
 
 /// The four lines of a surface.
@@ -30,10 +34,10 @@ fn report_text(alloc: Global, fatgraph: &Fatgraph) -> Result<Vec<u8>, AllocError
     let fraction = fraction(&counts, fatgraph.copies());
     let (vertices, edges) = (i128::from(counts.vertices), i128::from(counts.edges));
     let mut text = Vec::new(alloc);
-    append_number_line(&mut text, b"vertices ", vertices)?;
-    append_number_line(&mut text, b"edges ", edges)?;
-    append_number_line(&mut text, b"euler ", vertices - edges)?;
-    append_fraction_line(&mut text, &fraction)?;
+    print_number_line(b"vertices", vertices, &mut text)?;
+    print_number_line(b"edges", edges, &mut text)?;
+    print_number_line(b"euler", vertices - edges, &mut text)?;
+    print_fraction_line(&fraction, &mut text)?;
     Ok(text)
 }
 

@@ -9,8 +9,8 @@ returns c =
     let counts = c.in_ok-counts.counts in (
       c.fraction-fraction.result,
       of_cost g counts.vertices counts.edges _ _ c.fraction-fraction.result c.in_ok-counts.ensures.vertices c.in_ok-counts.ensures.edges c.copies.ensures.value c.fraction-fraction.ensures,
-      four_lines g c.fraction-fraction.result c.new-text.result.items _ _ _ _ _ _ _ c.new-text.ensures.items c.in_ok-append_number_line.ensures
-          c.in_ok-append_number_line-2.ensures c.in_ok-append_number_line-3.ensures c.in_ok-append_fraction_line.ensures
+      four_lines g c.fraction-fraction.result c.new-text.result.items _ _ _ _ _ _ _ c.new-text.ensures.items c.in_ok-print_number_line.ensures
+          c.in_ok-print_number_line-2.ensures c.in_ok-print_number_line-3.ensures c.in_ok-print_fraction_line.ensures
           (omega (arith, ints, c.in_ok-counts.ensures.vertices)) (omega (arith, ints, c.in_ok-counts.ensures.edges))
           (omega (arith, ints, c.in_ok-counts.ensures.vertices, c.in_ok-counts.ensures.edges)),
     )

@@ -2,7 +2,7 @@ use Rattle.std.proofs.Common.{rules, ◌≡◌, ◌++◌, ◌∙◌, List, ℕ, 
 use Rattle.std.specs.Int.{w128}
 use Rattle.sc_line.specs.Lines.{ended}
 use Rattle.sc_app.proofs.ShapeTexts.{same_line}
-use Rattle.sc_app.proofs.shape.append_component_line.Goals as goal
+use Rattle.sc_app.proofs.shape.print_component_line.Goals as goal
 
 pub returns : goal.returns
 returns c =
@@ -13,8 +13,8 @@ returns c =
     let euler : FitsSigned w128 c.from-4.result = search rules in
     let narrow : FitsSigned w64 c.euler_of.result = search rules in
     let boundaries : FitsSigned w128 c.counted-2.result = search rules in
-    subst (λ (l : List ℕ). OnOk c.append_counts_line.result (c.append_counts_line.new.out.items ≡ c.args.out.now.items ++ ended l))
+    subst (λ (l : List ℕ). OnOk c.print_counts_line.result (c.print_counts_line.new.out.items ≡ c.args.out.now.items ++ ended l))
     (same_line c.args.number c.args.component.now _ _ _ _ _ _
     (to_z-of_z number ∙ c.counted.ensures) (to_z-of_z sides ∙ c.from.ensures) (to_z-of_z vertices ∙ c.from-2.ensures) (to_z-of_z edges ∙ c.from-3.ensures)
     (to_z-of_z euler ∙ c.from-4.ensures ∙ to_z-of_z narrow ∙ c.euler_of.ensures) (to_z-of_z boundaries ∙ c.counted-2.ensures ∙ ap pos c.len.ensures))
-    c.append_counts_line.ensures
+    c.print_counts_line.ensures
