@@ -16,7 +16,7 @@ use Rattle.sc_cone.specs.Directions.{IsIn, IsPrimitive, TurnsLeft, first_end, la
 use Rattle.sc_cone.specs.Cones.{chain_of, quadrant_chain}
 use Rattle.sc_cone.specs.Values.{IsValueOf, IsTightAt}
 use Rattle.sc_cone.specs.Fans.{Corner, Edge, IsGoodCorner, IsHalf}
-use Rattle.sc_cone.specs.Searches.{Reached, reached, IsSearch, begun, grown, IsRow}
+use Rattle.sc_cone.specs.Searches.{Reached, reached, IsSearch, begun, grown, IsSweep}
 use Rattle.sc_cone.proofs.PrimitiveDirections.{not_both}
 use Rattle.sc_fan.specs.declared.corner.Corner.{Corner as CornerParts}
 use Rattle.sc_fan.specs.declared.fan.Edge.{Edge as EdgeParts}
@@ -36,7 +36,7 @@ use Rattle.sc_ball.specs.inside.Halves.{most_entries, ended_at, IsStepTo, IsArcT
 use Rattle.sc_ball.specs.Halves.{corner_in}
 use Rattle.sc_ball.proofs.EntryLists.{reached_at}
 use Rattle.sc_ball.proofs.ArcSteps.{arc_begun, arc_goes_on, arc_pushed_on, half_of_arc}
-use Rattle.sc_ball.proofs.SearchLaws.{row_of, entry_has, few_entries}
+use Rattle.sc_ball.proofs.SearchLaws.{sweep_of, entry_has, few_entries}
 
 abbrev pub corner_at : Solved → Corner
 corner_at s = corner_said (corner_in s)
@@ -213,8 +213,8 @@ module _ (q : Quadrant) (first second : Chain) (is_first : IsChain first) (is_se
   abbrev rs : List Reached
   rs = entries_of entries
 
-  row : IsRow q first second rs
-  row = row_of q first second is_first is_second entries (length entries) searched
+  sweep : IsSweep q first second rs
+  sweep = sweep_of q first second is_first is_second entries (length entries) searched
 
   module _ (n : ℕ) (s : Solved) (at_n : slice_get entries n ≡ Some s) where
     inside : n < length entries
@@ -234,16 +234,16 @@ module _ (q : Quadrant) (first second : Chain) (is_first : IsChain first) (is_se
     entry_solved = subst (IsSolvedIn q first second) (sym read_is) (All-get_or (IsSolvedIn q first second) entries n s inside searched.solved)
 
     entry_within : IsIn q s.reached.direction
-    entry_within = subst (λ (r : Reached). IsIn q r.direction) entry_is (row.within n mapped_inside)
+    entry_within = subst (λ (r : Reached). IsIn q r.direction) entry_is (sweep.within n mapped_inside)
 
     entry_primitive : IsPrimitive s.reached.direction
-    entry_primitive = subst (λ (r : Reached). IsPrimitive r.direction) entry_is (row.primitive n mapped_inside)
+    entry_primitive = subst (λ (r : Reached). IsPrimitive r.direction) entry_is (sweep.primitive n mapped_inside)
 
     step_at : (k : ℕ) → n ≡ suc k → IsStepTo q first second (reached rs k) s
     step_at k e = record {
-      here = row.tight k (omega (arith, e, mapped_inside));
+      here = sweep.tight k (omega (arith, e, mapped_inside));
       here_list = entry_has q first second (λ r. IsListFor (quadrant_chain q first second) r.list) (λ u is. is.list) entries searched.solved k (omega (arith, e, inside));
-      left = subst (λ (r : Reached). TurnsLeft (reached rs k).direction r.direction) at_next (row.left k (omega (arith, e, mapped_inside)));
+      left = subst (λ (r : Reached). TurnsLeft (reached rs k).direction r.direction) at_next (sweep.left k (omega (arith, e, mapped_inside)));
       closed = subst (IsClosed q first second (reached rs k)) at_next (searched.closed k (omega (arith, e, inside)));
       within = entry_within;
       primitive = entry_primitive;
@@ -257,7 +257,7 @@ module _ (q : Quadrant) (first second : Chain) (is_first : IsChain first) (is_se
     pub along_first : (a : Arc) → n ≡ 0 → (IsIn q s.reached.direction → IsPrimitive s.reached.direction → s.reached.direction ≡ first_end q → IsSolvedIn q first second s → ArcIsTo q first second a 1 (seen s)) → IsArcAlong q first second rs (Some a) (suc n)
     along_first a e begins =
         let at_first : reached rs 0 ≡ seen s = ap (reached rs) (sym e) ∙ entry_is in
-        let arc : ArcIsTo q first second a 1 (seen s) = begins entry_within entry_primitive (ap (λ (r : Reached). r.direction) (sym at_first) ∙ row.begins) entry_solved in
+        let arc : ArcIsTo q first second a 1 (seen s) = begins entry_within entry_primitive (ap (λ (r : Reached). r.direction) (sym at_first) ∙ sweep.begins) entry_solved in
         (0, ap suc e, moved a (suc n) (seen s) (reached rs 0) (sym (ap suc e)) (sym at_first) arc)
       where
         moved : (a : Arc) (m : ℕ) (r u : Reached) → 1 ≡ m → r ≡ u → ArcIsTo q first second a 1 r → ArcIsTo q first second a m u
@@ -275,7 +275,7 @@ module _ (q : Quadrant) (first second : Chain) (is_first : IsChain first) (is_se
   -- at the end it is a half
   pub along_all : (a : Arc) (h : Half) → IsArcAlong q first second rs (Some a) (length entries) → ((n : ℕ) (r : Reached) → ArcIsTo q first second a n r → r.direction ≡ last_end q → n ≤ most_entries → IsHalfFan q first second h) → IsHalfFan q first second h
   along_all a h arc finishes =
-      finishes (length entries) (reached rs arc.0) arc.2 (row.ends arc.0 (sym arc.1 ∙ sym (length-map entries seen))) (few_entries q first second is_first is_second entries (length entries) searched)
+      finishes (length entries) (reached rs arc.0) arc.2 (sweep.ends arc.0 (sym arc.1 ∙ sym (length-map entries seen))) (few_entries q first second is_first is_second entries (length entries) searched)
 
   -- the same of an answer that may be a refusal
   pub along_all_ok : {E : Type 0} (a : Arc) (result : Result Half E) → IsArcAlong q first second rs (Some a) (length entries) → ((n : ℕ) (r : Reached) → ArcIsTo q first second a n r → r.direction ≡ last_end q → n ≤ most_entries → IfOk result (IsHalfFan q first second)) → IfOk result (IsHalfFan q first second)

@@ -11,9 +11,9 @@ use Rattle.sc_cone.specs.declared.Direction.{Direction}
 use Rattle.sc_cone.specs.declared.Quadrant.{Quadrant}
 use Rattle.sc_cone.specs.declared.Quadrant.TheVariants.{Lower, Upper}
 use Rattle.sc_cone.specs.Directions.{first_end, last_end}
-use Rattle.sc_cone.specs.Searches.{Reached, reached, IsOpen, IsGap, IsNext, IsSearch, begun, IsRow}
-use Rattle.sc_cone.proofs.SearchRows.{search_is_row, gap_in, grown_at}
-use Rattle.sc_cone.proofs.ShortRows.{short, coordinates}
+use Rattle.sc_cone.specs.Searches.{Reached, reached, IsOpen, IsGap, IsNext, IsSearch, begun, IsSweep}
+use Rattle.sc_cone.proofs.Sweeps.{search_is_sweep, gap_in, grown_at}
+use Rattle.sc_cone.proofs.ShortSweeps.{short, coordinates}
 use Rattle.sc_cone.proofs.Forms.{length_by_form}
 use Rattle.sc_cone.proofs.EmptyChains.{first_has_length, second_has_length}
 use Rattle.sc_crossing.specs.declared.reached.Reached.{Reached as ReachedParts}
@@ -98,20 +98,16 @@ module _ (q : Quadrant) (first second : Chain) where
     closed = λ i low. absurd (omega arith);
   }
 
-  -- where the place is that of the last entry, all neighbours are closed
-  pub searched_all : (entries : List Solved) (place : ℕ) → IsSearchedTo q first second entries (place + 1) → length entries ≤ place + 1 → IsSearchedTo q first second entries (length entries)
-  searched_all entries place so_far few = record { search = so_far.search; solved = so_far.solved; closed = λ i low. so_far.closed i (omega arith) }
-
   module _ (is_first : IsChain first) (is_second : IsChain second) (entries : List Solved) where
     -- the entries of a search go round their quadrant
-    pub row_of : (n : ℕ) → IsSearchedTo q first second entries n → IsRow q first second (entries_of entries)
-    row_of n so_far = search_is_row q first second is_first is_second (entries_of entries) so_far.search
+    pub sweep_of : (n : ℕ) → IsSearchedTo q first second entries n → IsSweep q first second (entries_of entries)
+    sweep_of n so_far = search_is_sweep q first second is_first is_second (entries_of entries) so_far.search
 
     -- they are no more than there may be
     pub few_entries : (n : ℕ) → IsSearchedTo q first second entries n → length entries ≤ most_entries
     few_entries n so_far =
         subst (λ (k : ℕ). k ≤ most_entries) (length-map entries seen)
-        (short q first second (entries_of entries) (row_of n so_far) MAX_LENGTH
+        (short q first second (entries_of entries) (sweep_of n so_far) MAX_LENGTH
         (λ i inside. entry_has (λ r. (unsigned_abs r.direction.s ≤ MAX_LENGTH) × (unsigned_abs r.direction.t ≤ MAX_LENGTH)) (λ s is. (is.small.first, is.small.second)) entries so_far.solved i (subst (λ (k : ℕ). i < k) (length-map entries seen) inside)))
 
     module _ (place : ℕ) (here there : Solved) (inside : place + 1 < length entries) (at_here : here ≡ get_or entries place here) (at_there : there ≡ get_or entries (place + 1) there) (so_far : IsSearchedTo q first second entries (place + 1)) where
@@ -128,17 +124,11 @@ module _ (q : Quadrant) (first second : Chain) where
       pub there_is : reached (entries_of entries) (suc place) ≡ seen there
       there_is = subst (λ (k : ℕ). reached (entries_of entries) k ≡ seen there) next_place (reached_at seen entries (place + 1) there inside at_there)
 
-      pub here_solved : IsSolvedIn q first second here
-      here_solved = subst (IsSolvedIn q first second) (sym at_here) (All-get_or (IsSolvedIn q first second) entries place here (omega arith) so_far.solved)
-
-      pub there_solved : IsSolvedIn q first second there
-      there_solved = subst (IsSolvedIn q first second) (sym at_there) (All-get_or (IsSolvedIn q first second) entries (place + 1) there inside so_far.solved)
-
       -- where they are open, they are a gap
       pub gap_here : IsOpen q first second (seen here) (seen there) → IsGap q first second (seen here) (seen there)
       gap_here opened =
           subst₂ (IsGap q first second) here_is there_is
-          (gap_in q first second (entries_of entries) place (row_of (place + 1) so_far) mapped_inside (subst₂ (IsOpen q first second) (sym here_is) (sym there_is) opened))
+          (gap_in q first second (entries_of entries) place (sweep_of (place + 1) so_far) mapped_inside (subst₂ (IsOpen q first second) (sym here_is) (sym there_is) opened))
 
       -- nothing is due between closed neighbours
       pub searched_further : IsEntryBetween q first second (seen here) (seen there) None → IsSearchedTo q first second entries (place + 1 + 1)

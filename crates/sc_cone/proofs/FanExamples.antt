@@ -19,7 +19,7 @@ use Rattle.sc_cone.specs.Examples.{upper_list, lower_list, flat_fan, four_corner
 use Rattle.sc_cone.proofs.ConeWords.{is_chain}
 use Rattle.sc_cone.proofs.ConeChains.{covers_all}
 use Rattle.sc_cone.proofs.ValueLaws.{value_from_tight, value_moved}
-use Rattle.sc_cone.proofs.SearchRows.{first_within, last_within, first_primitive, last_primitive, ends_turn}
+use Rattle.sc_cone.proofs.Sweeps.{first_within, last_within, first_primitive, last_primitive, ends_turn}
 use Rattle.sc_cone.proofs.Arcs.{arc_of_one, arc_pushed}
 use Rattle.sc_cone.proofs.Halves.{fan_of_halves}
 use Rattle.sc_cone.proofs.SameFans.{as_many}

@@ -12,7 +12,7 @@ pub mod PrimitiveDirections
 pub mod Agreement
 pub mod Turning
 pub mod NextDirections
-pub mod SearchRows
+pub mod Sweeps
 pub mod EmptyChains
 pub mod Crossings
 pub mod Corners
@@ -20,6 +20,6 @@ pub mod SameFans
 pub mod Forms
 pub mod Halves
 pub mod Arcs
-pub mod ShortRows
+pub mod ShortSweeps
 pub mod WholePlane
 pub mod FanExamples

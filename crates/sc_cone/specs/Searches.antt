@@ -60,7 +60,7 @@ reached rs i = get_or rs i nothing_reached
 
 -- primitive directions of a quadrant from its one end to the other, each to the left of the one before, with lists that
 -- cover and are tight there
-pub record IsRow (q : Quadrant) (first second : Chain) (rs : List Reached) : Type 0 where
+pub record IsSweep (q : Quadrant) (first second : Chain) (rs : List Reached) : Type 0 where
   pub begins : (reached rs 0).direction ≡ first_end q
   pub ends : (k : ℕ) → suc k ≡ length rs → (reached rs k).direction ≡ last_end q
   pub within : (i : ℕ) → i < length rs → IsIn q (reached rs i).direction

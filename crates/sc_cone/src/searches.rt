@@ -8,7 +8,7 @@ ghost use Rattle.sc_cone.specs.declared.Direction.{Direction};
 ghost use Rattle.sc_cone.specs.declared.Quadrant.{Quadrant};
 ghost use Rattle.sc_cone.specs.Directions.{IsIn, TurnsLeft};
 ghost use Rattle.sc_cone.specs.Cones.{chain_of, quadrant_chain};
-ghost use Rattle.sc_cone.specs.Searches.{Reached, reached, IsReached, IsOpen, IsGap, IsNext, IsSearch, IsRow};
+ghost use Rattle.sc_cone.specs.Searches.{Reached, reached, IsReached, IsOpen, IsGap, IsNext, IsSearch, IsSweep};
 ghost use Rattle.sc_cone.specs.Values.{IsValueOf, IsTightAt, SameValueAt, list_num, list_den, first_gap, second_gap};
 
 /// Where the value of a chain is known, a list has it exactly where the two fractions are one number.
@@ -30,8 +30,8 @@ pub fn next_direction_is_between()
 /// The entries of a search are primitive directions of its quadrant, from its one end to the other, each to the left of
 /// the one before, with lists that cover the quadrant's chain and are tight there.
 pub fn searches_go_round()
-    ensures row { (q : Quadrant) (first second : Chain) (rs : List Reached) → IsChain first → IsChain second → IsSearch q first second rs → IsRow q first second rs }
-    ensures gaps { (q : Quadrant) (first second : Chain) (rs : List Reached) (i : ℕ) → IsRow q first second rs → suc i < length rs → IsOpen q first second (reached rs i) (reached rs (suc i)) → IsGap q first second (reached rs i) (reached rs (suc i)) }
+    ensures sweep { (q : Quadrant) (first second : Chain) (rs : List Reached) → IsChain first → IsChain second → IsSearch q first second rs → IsSweep q first second rs }
+    ensures gaps { (q : Quadrant) (first second : Chain) (rs : List Reached) (i : ℕ) → IsSweep q first second rs → suc i < length rs → IsOpen q first second (reached rs i) (reached rs (suc i)) → IsGap q first second (reached rs i) (reached rs (suc i)) }
 {}
 
 /// A search grows by what is put in between two open neighbours.
@@ -56,5 +56,5 @@ pub fn open_neighbours_have_length()
 
 /// The entries of a search are at most as many as there are pairs of coordinates.
 pub fn searches_are_short()
-    ensures { (q : Quadrant) (first second : Chain) (rs : List Reached) (n : ℕ) → IsRow q first second rs → ((i : ℕ) → i < length rs → (unsigned_abs (reached rs i).direction.s ≤ n) × (unsigned_abs (reached rs i).direction.t ≤ n)) → length rs ≤ suc n * suc n }
+    ensures { (q : Quadrant) (first second : Chain) (rs : List Reached) (n : ℕ) → IsSweep q first second rs → ((i : ℕ) → i < length rs → (unsigned_abs (reached rs i).direction.s ≤ n) × (unsigned_abs (reached rs i).direction.t ≤ n)) → length rs ≤ suc n * suc n }
 {}

@@ -21,13 +21,13 @@ fn word(alloc: Global, text: &str) -> Result<Word, AllocError>
 }
 
 /// The lines of coefficients and words.
-fn lines(rt: &impl Abort, alloc: Global, rows: &[(i32, &str)]) -> Result<Vec<RawLine>, AllocError>
+fn lines(rt: &impl Abort, alloc: Global, terms: &[(i32, &str)]) -> Result<Vec<RawLine>, AllocError>
     ensures ranges { IfOk result (λ read. All IsRawLine read.items) }
     ensures letters { IfOk result (λ read. count_letters read.items < 2 ^ 32) }
 {
     let mut read = Vec::new(alloc);
     let mut letters = 0;
-    for (coefficient, text) in rows {
+    for (coefficient, text) in terms {
         let word = word(alloc, text)?;
         assert!(rt; coefficient.unsigned_abs() <= MAX_COEFFICIENT);
         assert!(rt; word.len() < 1000);
@@ -43,12 +43,12 @@ fn lines(rt: &impl Abort, alloc: Global, rows: &[(i32, &str)]) -> Result<Vec<Raw
 }
 
 /// Whether a chain has these weights and words.
-fn is_chain(alloc: Global, chain: &Chain, rows: &[(u32, &str)]) -> Result<bool, AllocError> {
-    if chain.words() != rows.len() {
+fn is_chain(alloc: Global, chain: &Chain, entries: &[(u32, &str)]) -> Result<bool, AllocError> {
+    if chain.words() != entries.len() {
         return Ok(false);
     }
     let mut place = 0;
-    for (number, (weight, text)) in rows.iter().enumerate() {
+    for (number, (weight, text)) in entries.iter().enumerate() {
         let word = word(alloc, text)?;
         if number >= chain.words() || chain.weight(number) != *weight {
             return Ok(false);
@@ -117,7 +117,7 @@ fn elements_are_compared(rt: HostRuntime) -> Result<(), Fail> {
 #[test]
 fn lines_make_a_chain(rt: HostRuntime) -> Result<(), Fail> {
     let alloc = rt.alloc();
-    let rows = [
+    let terms = [
         (1, "aabABA"),
         (-1, "abAB"),
         (0, "ab"),
@@ -125,7 +125,7 @@ fn lines_make_a_chain(rt: HostRuntime) -> Result<(), Fail> {
         (2, "ab"),
         (1000, "ab"),
     ];
-    let chain = reduce_lines(alloc, &lines(&rt, alloc, &rows)?)?;
+    let chain = reduce_lines(alloc, &lines(&rt, alloc, &terms)?)?;
     assert!(rt;
         is_chain(
             alloc,
@@ -155,8 +155,8 @@ fn limits_are_kept(rt: HostRuntime) -> Result<(), Fail> {
         (&[(-2, "abc"); 33], Err(ChainFault::ManyWords { count: 33 })),
         (&[(0, LONG), (1, "aA"), (3, "a")], Ok(1)),
     ];
-    for (rows, want) in cases {
-        let chain = reduce_lines(alloc, &lines(&rt, alloc, rows)?);
+    for (terms, want) in cases {
+        let chain = reduce_lines(alloc, &lines(&rt, alloc, terms)?);
         assert_eq!(rt; chain.map(|chain| chain.positions()), want);
     }
     Ok(())

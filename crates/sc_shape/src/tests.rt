@@ -17,8 +17,8 @@ fn shape_of(rt: &impl Abort, alloc: Global, text: &[u8]) -> Result<Vec<Component
     components(alloc, &fatgraph)
 }
 
-/// The numbers of components in a row: of each the least side, the sides, vertices, edges and boundaries, then of
-/// each boundary the least side, the word and the degree.
+/// The numbers of components one after another: of each the least side, the sides, vertices, edges and boundaries, then
+/// of each boundary the least side, the word and the degree.
 fn numbers_of(alloc: Global, found: &[Component]) -> Result<Vec<u32>, AllocError> {
     let mut numbers = Vec::new(alloc);
     for component in found {

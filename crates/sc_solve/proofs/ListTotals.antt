@@ -81,7 +81,7 @@ step_levels_is c list i j =
       fine = price c (record { scale = pos 1; base = fine_again list.base k; pair = fine_again list.pair k }) i j;
     }
 
--- a table with the steps' prices by the list's numbers as weights has the prices of the list
+-- a square with the steps' prices by the list's numbers as weights has the prices of the list
 pub steps_by_list : (c : Chain) (list : Prices) (t : Square Plain) (pair base : List Plain) → pair ≡ map plain list.pair → base ≡ map plain list.base → AreForChain c t
     → ((i j : ℕ) → IsStep c i j → price_in plain_levels t i j ≡ step_levels plain_levels c pair base i j) → AreListSteps c list t
 steps_by_list c list t pair base e f steps prices =
@@ -197,7 +197,7 @@ module _ (c : Chain) (list : Prices) (t : Square Plain) (own : AreListSteps c li
           subst (λ (z : ℤ). IsEntryInRange (Some z)) same (total_in_range c list small s short.walk (omega (arith, short.short, few)))
 
   -- ---- from the totals to the numbers
-  -- the least total at the prices of the table is the least price of the list
+  -- the least total at the prices of the square is the least price of the list
   pub distance_is : (s j : ℕ) (o : Option Plain) → IsLeastTotal c (price_in plain_levels t) s j (option_map plain_levels o) → IsDistance c list s j (option_map number o)
   distance_is s j None none = none
   distance_is s j (Some w) least =

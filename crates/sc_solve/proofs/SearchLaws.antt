@@ -1,4 +1,4 @@
--- What a search at the prices of a table finds, in the terms of the prices of the rows.
+-- What a search at the prices of a square finds, in the terms of the prices of the rows.
 use Rattle.std.proofs.Common.{◌≡◌, ℕ, List, [], ◌∷◌, Option, Some, None, ℤ, ◌+ℤ◌, inr, refl, sym, ap, ap₂, subst, subst₂, ◌∙◌}
 use Rattle.sc_theory.specs.Chains.{Chain, IsChain}
 use Rattle.sc_theory.specs.Walks.{IsStep, IsClosedWalk}
@@ -71,7 +71,7 @@ pub match_same : (c : Chain) (f g : ℕ → ℕ → Levels) (t : Levels) → ((i
 match_same c f g t same (Some walk) is = below_same c f g same t walk is
 match_same c f g t same None is = all_same c f g same t is
 
--- a table's fault at the prices of the rows is told as a refusal of the search
+-- a fault of tables at the prices of the rows is told as a refusal of the search
 pub table_fault_is : (c : Chain) (p : PriceRows) (f : ℕ → ℕ → Levels) → ((i j : ℕ) → IsStep c i j → f i j ≡ price_levels c p i j) → (fault : TableFault) → IsTableFault c f fault → IsWideBy (IsWideSearch c p) (refusal_of_table fault)
 table_fault_is c p f same (TableWide walk level wide) is = inr (record {
   level = level;

@@ -22,7 +22,7 @@ one_level z = record { bulk = pos 0; fine = z }
 abbrev pub plain_levels : Plain → Levels
 plain_levels w = one_level (number w)
 
--- the table has the price by the list for each step of the chain
+-- the square has the price by the list for each step of the chain
 pub record AreListSteps (c : Chain) (list : Prices) (t : Square Plain) : Type 0 where
   pub steps : AreForChain c t
   pub same : (i j : ℕ) → IsStep c i j → price_in plain_levels t i j ≡ one_level (price c list i j)

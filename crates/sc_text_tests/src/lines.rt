@@ -98,7 +98,7 @@ fn values_are_read(rt: HostRuntime) {
     }
 }
 
-const OTHER_ROWS: [(&[u8], Kind); 8] = [
+const OTHER_TABLES: [(&[u8], Kind); 8] = [
     (b"from 2 6 0 -4 1", Kind::Form),
     (b"from 1 6 0 -4", Kind::Form),
     (b"from 1 6 0 -4 1 1", Kind::Form),
@@ -113,20 +113,20 @@ const OTHER_ROWS: [(&[u8], Kind); 8] = [
 ];
 
 #[test]
-fn rows_are_read(rt: HostRuntime) -> Result<(), Fail> {
-    let row = from_line(rt.alloc(), b"from 1 6 - -4 1", 1, 4).expect(&rt, "a row");
+fn tables_are_read(rt: HostRuntime) -> Result<(), Fail> {
+    let table = from_line(rt.alloc(), b"from 1 6 - -4 1", 1, 4).expect(&rt, "a table");
     assert_eq!(rt;
-        row.as_slice(),
+        table.as_slice(),
         [Some(6), None, Some(-4), Some(1)].as_slice()
     );
     let line = b"from 1 1267650600228229401496703205375 -1267650600228229401496703205375";
-    let row = from_line(rt.alloc(), line, 1, 2).expect(&rt, "a row");
+    let table = from_line(rt.alloc(), line, 1, 2).expect(&rt, "a table");
     let greatest = 1_267_650_600_228_229_401_496_703_205_375;
     assert_eq!(rt;
-        row.as_slice(),
+        table.as_slice(),
         [Some(greatest), Some(-greatest)].as_slice()
     );
-    for (line, kind) in OTHER_ROWS {
+    for (line, kind) in OTHER_TABLES {
         let fault = from_line(rt.alloc(), line, 1, 4).err();
         assert_eq!(rt; fault, Some(LineFault::Malformed(kind)));
     }

@@ -86,9 +86,9 @@ pair_term true x y u v d =
     mul_sub d _ _ ∙ ap (λ (e : ℤ). e -ℤ d *ℤ (if u && v then pos 1 else pos 0)) (times_only x y d) ∙ ap (λ (e : ℤ). only x y d -ℤ e) (times_only u v d ∙ only-swap u v d)
 pair_term false x y u v d = sym (ap (λ (e : ℤ). e -ℤ only v u (pos 0)) (only-zero x y) ∙ ap (λ (e : ℤ). pos 0 -ℤ e) (only-zero v u))
 
--- the sum of a table with one entry
-table_sum : (f : ℕ → ℕ → ℤ) (n a b : ℕ) → a < n → b < n → sum_below (λ p. sum_below (λ q. only (eqb p a) (eqb q b) (f p q)) n) n ≡ f a b
-table_sum f n a b inside_a inside_b =
+-- the sum over two places of what is 0 at all others
+sum_at_places : (f : ℕ → ℕ → ℤ) (n a b : ℕ) → a < n → b < n → sum_below (λ p. sum_below (λ q. only (eqb p a) (eqb q b) (f p q)) n) n ≡ f a b
+sum_at_places f n a b inside_a inside_b =
     sum-single _ n a inside_a (λ p _ other. sum_zero_each _ n (λ q _. cond-false (eqb p a) (if eqb q b then f p q else pos 0) (pos 0) (ne_eqb p a other)))
     ∙ sum-single _ n b inside_b (λ q _ other. cond-true (eqb a a) (if eqb q b then f a q else pos 0) (pos 0) (eq-eqb a a refl) ∙ cond-false (eqb q b) (f a q) (pos 0) (ne_eqb q b other))
     ∙ cond-true (eqb a a) (if eqb b b then f a b else pos 0) (pos 0) (eq-eqb a a refl)
@@ -173,7 +173,7 @@ module _ (c : Chain) (i j : ℕ) (step : IsStep c i j) where
       ∙ sum_pairs c (at_pair c i j)
       ∙ sum-congr _ _ n (λ p inside_p. sum-congr _ _ n (λ q inside_q. pair_entry p q inside_p inside_q) ∙ sum-sub (there p) (back p) n)
       ∙ sum-sub (λ p. sum_below (there p) n) (λ p. sum_below (back p) n) n
-      ∙ both _ _ _ _ (table_sum (places_of_pair c) n a j inside step.to) (table_sum (places_of_pair c) n j a step.to inside)
+      ∙ both _ _ _ _ (sum_at_places (places_of_pair c) n a j inside step.to) (sum_at_places (places_of_pair c) n j a step.to inside)
       ∙ places_of_step c a j (inverse_of_step c i j step) (inverse_before (letter c j) (letter c a) step.inverse)
 
 -- the product of the length row and a step's column in the row of a word

@@ -7,7 +7,7 @@ use Rattle.sc_tables.specs.Squares.{Square}
 use Rattle.sc_tables.specs.StepPrices.{price_in}
 use Rattle.sc_solve.specs.inside.PriceLevels.{levels_of}
 
--- the fine prices of steps in a table
+-- the fine prices of steps in a square
 abbrev pub fine_in : Square Pair → ℕ → ℕ → ℤ
 fine_in t i j = (price_in levels_of t i j).fine
 

@@ -1,5 +1,5 @@
-use Rattle.sc_cone.proofs.ShortRows.{short}
+use Rattle.sc_cone.proofs.ShortSweeps.{short}
 use Rattle.sc_cone.proofs.searches.searches_are_short.Goals as goal
 
 pub returns : goal.returns
-returns c = λ q first second rs n row small. short q first second rs row n small
+returns c = λ q first second rs n sweep small. short q first second rs sweep n small

@@ -1,4 +1,4 @@
-use Rattle.sc_cone.proofs.SearchRows.{grown_at}
+use Rattle.sc_cone.proofs.Sweeps.{grown_at}
 use Rattle.sc_cone.proofs.searches.searches_grow.Goals as goal
 
 pub returns : goal.returns
