@@ -127,9 +127,6 @@ module _ (t : ℕ → ℕ) (n : ℕ) (p : IsPermutation t n) where
 
   -- ---- where the sides stand
 
-  place : ℕ → ℕ → ℕ
-  place r i = 20 * (length (order_below t n r) + i + 1 + count_below (is_least_for t n) r)
-
   same_places : (x x' : ℕ → ℕ) → AreLaidOut t n x → AreLaidOut t n x' → (s : ℕ) → s < n → x s ≡ x' s
   same_places x x' a a' s b = elim (cases_eq (x s) (x' s)) [
     | inl e ↦ e

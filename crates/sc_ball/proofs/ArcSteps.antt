@@ -74,29 +74,9 @@ module _ (q : Quadrant) (first second : Chain) where
     arc = so_far.arc;
   }
 
-  -- which list an edge takes: the first one's, where it is to spare and tight at the second, and else the second one's
-  module _ (r u : Reached) (edge : Option Edge) (here : IsTightAt q first second r.list r.direction) (there : IsTightAt q first second u.list u.direction) (not_tight : IsTightLast q first second edge u.direction → ⊥) where
-    pub first_chosen : (spare : Prices) → IsSpareOf (list_in edge) r.list (Some spare) → IsTightAt q first second spare u.direction → IsChosen q first second r u spare (Some u.list)
-    first_chosen spare is tight = record {
-      of_one = inl is;
-      at_first = subst (λ (l : Prices). IsTightAt q first second l r.direction) (sym is) here;
-      at_second = tight;
-      spare_is = refl;
-    }
-
-    pub second_chosen : (spare : Prices) → IsClosed q first second r u → IsSpareOf (list_in edge) r.list (Some spare) → (IsTightAt q first second spare u.direction → ⊥) → IsChosen q first second r u u.list None
-    second_chosen spare closed is beyond = elim closed [
-      | inl tight ↦ absurd (beyond (subst (λ (l : Prices). IsTightAt q first second l u.direction) (sym is) tight))
-      | inr tight ↦ record { of_one = inr refl; at_first = tight; at_second = there; spare_is = refl }
-    ]
-
-  last_tight : (edge : Option Edge) (list : Prices) (d : Direction) → IsSpareOf (list_in edge) list None → IsTightAt q first second list d → IsTightLast q first second edge d
-  last_tight None list d is tight = absurd is
-  last_tight (Some e) list d is tight = subst (λ (l : Prices). IsTightAt q first second l d) (sym is) tight
-
-  -- where no list is to spare, the edge takes the second one's
-  pub none_to_spare : (r u : Reached) (edge : Option Edge) → IsTightAt q first second u.list u.direction → (IsTightLast q first second edge u.direction → ⊥) → IsClosed q first second r u → IsSpareOf (list_in edge) r.list None → IsChosen q first second r u u.list None
-  none_to_spare r u edge there not_tight closed is = elim closed [
-    | inl tight ↦ absurd (not_tight (last_tight edge r.list u.direction is tight))
+  -- where the list to spare isn't tight at the second of two directions, an edge takes the second one's list
+  pub second_chosen : (r u : Reached) (edge : Option Edge) → IsTightAt q first second u.list u.direction → (spare : Prices) → IsClosed q first second r u → IsSpareOf (list_in edge) r.list (Some spare) → (IsTightAt q first second spare u.direction → ⊥) → IsChosen q first second r u u.list None
+  second_chosen r u edge there spare closed is beyond = elim closed [
+    | inl tight ↦ absurd (beyond (subst (λ (l : Prices). IsTightAt q first second l u.direction) (sym is) tight))
     | inr tight ↦ record { of_one = inr refl; at_first = tight; at_second = there; spare_is = refl }
   ]

@@ -37,9 +37,6 @@ one_corner : (c d : CornerParts) → c.direction ≡ d.direction → quotient_of
 one_corner c d p e = λ i. record { direction = p i; value = e i }
 
 module _ (first second : Chain) (xs : List CornerParts) (c d : CornerParts) (ys : List CornerParts) (es fs : List EdgeParts) (low : IsHalf Lower first second (map corner_said (xs ++ c ∷ [])) (map edge_said es)) (high : IsHalf Upper first second (map corner_said (d ∷ ys)) (map edge_said fs)) where
-  before : List Corner
-  before = map corner_said xs
-
   low' : IsHalf Lower first second (map corner_said xs ++ corner_said c ∷ []) (map edge_said es)
   low' = subst (λ (cs : List Corner). IsHalf Lower first second cs (map edge_said es)) (map-append corner_said xs (c ∷ [])) low
 

@@ -21,7 +21,7 @@ use Rattle.sc_line.specs.declared.fault.LineFault.{LineFault}
 use Rattle.sc_line.specs.declared.fault.LineFault.TheVariants.{Malformed, Memory}
 use Rattle.sc_line.specs.LineFaults.{IsFault}
 use Rattle.sc_line.specs.Faults.{between}
-use Rattle.sc_line.specs.Lines.{AllLack, Line, Field, fields, number_of, first_number, IsNarrowed, TellsNumber, TakesNumber}
+use Rattle.sc_line.specs.Lines.{AllLack, Line, Field, fields, number_of, IsNarrowed, TellsNumber, TakesNumber}
 use Rattle.sc_line.specs.Formats.{IsLineKind}
 use Rattle.sc_line.proofs.LineLaws.{fields-spaced, lacks-spelling, number_of-spelling, number_of_is, number_of_from, named_is, taken_is, line_from_fields}
 use Rattle.sc_line.proofs.NumberLaws.{between-natural, named_inverse, IsLineOf, kind_from}
@@ -196,11 +196,6 @@ module _ (c : Chain) (fs : List Field) (before : List ℕ) (f : Field) (after : 
 
 -- ---- the fault of the fields of a pivot
 
--- a pivot whose first field is no number has the fault Form
-pub row_missing : (c : Chain) (fs : List Field) → first_number fs ≡ None → pivot_fields_fault c fs ≡ Some Form
-row_missing c [] h = refl
-row_missing c (f ∷ fs) h = rw h refl
-
 -- behind a row that is a number, the fault of the walk is that of the pivot
 pub walk_bad : (c : Chain) (f : Field) (fs : List Field) (z : ℤ) (k : Kind) → number_of f ≡ Some z → walk_fault c fs ≡ Some k → pivot_fields_fault c (f ∷ fs) ≡ Some k
 walk_bad c f fs z k e h =
@@ -233,9 +228,6 @@ other_fields c walk h =
 -- ---- the same of a line
 
 module _ (c : Chain) (line : Line) (fs : List Field) (named : fields line ≡ codes "pivot" ∷ fs) where
-  pub line_row_missing : first_number fs ≡ None → pivot_fault c line ≡ Some Form
-  line_row_missing h = named_is (codes "pivot") (pivot_fields_fault c) line fs named ∙ row_missing c fs h
-
   pub line_walk_bad : (rest : List Field) (number : Option ℤ) (e : LineFault) → TakesNumber fs rest number → IsFault (walk_fault c rest) e → IsFault (pivot_fault c line) e
   line_walk_bad rest number (Malformed k) t h = named_is (codes "pivot") (pivot_fields_fault c) line fs named ∙ ap (pivot_fields_fault c) t.taken ∙ walk_bad c t.field rest t.value k t.spells h
   line_walk_bad rest number Memory t h = tt

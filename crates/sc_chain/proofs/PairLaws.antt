@@ -146,15 +146,6 @@ row_of_pair c k h =
     let at : place_of (pairs c) p q ≡ k = pair_once c k h in
     row-plus (pairs c) p q (omega arith) ∙ ap (λ (j : ℕ). Some (j, Plus)) at
 
-below_from : (ps : List (ℕ × ℕ)) (p q : ℕ) (x : ℕ × Sign) → Row ps p q → row_in ps p q ≡ Some x → x.0 < length ps
-below_from ps p q x (plus h r) e = let at : place_of ps p q ≡ x.0 = ap (λ (y : ℕ × Sign). y.0) (some_is _ _ (sym r ∙ e)) in omega arith
-below_from ps p q x (minus h i r) e = let at : place_of ps q p ≡ x.0 = ap (λ (y : ℕ × Sign). y.0) (some_is _ _ (sym r ∙ e)) in omega arith
-below_from ps p q x (none h i r) e = absurd (not_none (row_in ps p q) x r e)
-
--- a row is a place in the list
-pub row_below : (ps : List (ℕ × ℕ)) (p q : ℕ) (x : ℕ × Sign) → row_in ps p q ≡ Some x → x.0 < length ps
-row_below ps p q x e = below_from ps p q x (row ps p q) e
-
 other_way : (c : Chain) (p q : ℕ) → letter c q ≡ inverse_letter (letter c p) → letter c p ≡ inverse_letter (letter c q)
 other_way c p q e = sym (inverse_letter-inverse_letter (letter c p)) ∙ ap inverse_letter (sym e)
 

@@ -83,10 +83,6 @@ each_letters : (c : Chain) → AllByRecursion IsWordInRange c → AllByRecursion
 each_letters [] h = tt
 each_letters (w ∷ c) h = (All-from_recursion IsGenerator w.1 h.0.letters, each_letters c h.1)
 
--- the letters of words in their range are those of generators
-pub spellable : (c : Chain) → AllByRecursion IsWordInRange c → All (λ w. All IsGenerator w.1) c
-spellable c h = All-from_recursion (λ (w : ℕ × Word). All IsGenerator w.1) c (each_letters c h)
-
 -- ---- the edges
 
 module _ (a b : Chain) (corners : List Corner) where

@@ -93,10 +93,6 @@ module _ {A V : Type 0} where
   steps_then (told x) f' rest line s = absurd (none-some _ (sym s.good))
   steps_then (a_line fault next) f' rest line s = record { good = s.good; next = ap (λ (h : Format A). and_then h rest) s.next }
 
-  pub fault_then : (f : Format A) (rest : A → Format V) (line : Line) (e : LineFault) → is_told f ≡ false → IsFault (fault_due f line) e → IsFault (fault_due (and_then f rest) line) e
-  fault_then (told x) rest line e h bad = absurd (false≢true (sym h))
-  fault_then (a_line fault next) rest line e h bad = bad
-
   -- a format whose value is made into another one tells where it told before
   pub told_then : (f : Format A) (g : A → V) → is_told (and_then f (λ x. told (g x))) ≡ is_told f
   told_then (told x) g = refl

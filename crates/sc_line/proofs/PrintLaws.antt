@@ -44,29 +44,12 @@ pub spaced_flat : (name : Field) (fs : List Field) → spaced (name ∷ fs) ≡ 
 spaced_flat name [] = sym (append-nil name)
 spaced_flat name (f ∷ fs) = ap (λ (rest : List ℕ). name ++ (32 ∷ rest)) (spaced_flat f fs)
 
-pub line_flat : {X : Type 0} (g : X → Field) (name : Field) (xs : List X) → spaced (name ∷ map g xs) ≡ name ++ flat_map (λ x. 32 ∷ g x) xs
-line_flat g name xs = spaced_flat name (map g xs) ∙ ap (λ rest. name ++ rest) (flat_map-map (λ f. 32 ∷ f) g xs)
-
 -- the text of lines, up to an index, at it, and after it
 pub lines_at : {X : Type 0} (f : X → Line) (xs : List X) (i : ℕ) (d : X) → i < length xs → text_of (map f xs) ≡ text_of (map f (take i xs)) ++ (ended (f (get_or xs i d)) ++ text_of (map f (drop (i + 1) xs)))
 lines_at f xs i d h =
     flat_map-map ended f xs ∙ pieces_at (λ x. ended (f x)) xs i d h
     ∙ ap (λ (t : List ℕ). t ++ (ended (f (get_or xs i d)) ++ flat_map (λ x. ended (f x)) (drop (i + 1) xs))) (sym (flat_map-map ended f (take i xs)))
     ∙ ap (λ (t : List ℕ). text_of (map f (take i xs)) ++ (ended (f (get_or xs i d)) ++ t)) (sym (flat_map-map ended f (drop (i + 1) xs)))
-
--- a line of a name and fields, up to a field and from it on
-pub line_parts : {X : Type 0} (g : X → Field) (name : Field) (xs : List X) (i : ℕ) → ended (spaced (name ∷ map g xs)) ≡ (name ++ flat_map (λ x. 32 ∷ g x) (take i xs)) ++ (flat_map (λ x. 32 ∷ g x) (drop i xs) ++ 10 ∷ [])
-line_parts g name xs i =
-    ap (λ (t : List ℕ). t ++ 10 ∷ []) (line_flat g name xs ∙ ap (λ ys. name ++ flat_map (λ x. 32 ∷ g x) ys) (sym (take-append-drop i xs)) ∙ ap (λ (t : List ℕ). name ++ t) (flat_map-append (λ x. 32 ∷ g x) (take i xs) (drop i xs)))
-    ∙ simp append_assoc
-
--- the same with the field and its space apart
-pub line_field : {X : Type 0} (g : X → Field) (name : Field) (xs : List X) (i : ℕ) (d : X) → i < length xs
-    → ended (spaced (name ∷ map g xs)) ≡ ((name ++ flat_map (λ x. 32 ∷ g x) (take i xs)) ++ 32 ∷ []) ++ (g (get_or xs i d) ++ (flat_map (λ x. 32 ∷ g x) (drop (i + 1) xs) ++ 10 ∷ []))
-line_field g name xs i d h =
-    line_parts g name xs i
-    ∙ ap (λ ys. (name ++ flat_map (λ x. 32 ∷ g x) (take i xs)) ++ (flat_map (λ x. 32 ∷ g x) ys ++ 10 ∷ [])) (drop_more xs i d h)
-    ∙ simp append_assoc
 
 -- what holds anyway holds where the result is an error
 pub on_err : {T E : Type 0} (r : Result T E) {P : Type 0} → P → OnErr r P

@@ -1,13 +1,12 @@
 -- Orders of entries, of lists, and of rows by their lists.
-use Rattle.std.specs.Prelude.{◌≡◌, ℕ, zero, suc, ◌<◌, List, length, Option, None, Some, ℤ, pos, ◌*ℤ◌, ◌≤ℤ◌, ◌<ℤ◌}
+use Rattle.std.specs.Prelude.{◌≡◌, ℕ, zero, suc, ◌<◌, List, length, Some, ℤ, pos, ◌*ℤ◌, ◌<ℤ◌}
 use Rattle.std.specs.declared.cmp.Ordering.{Ordering}
 use Rattle.std.specs.declared.cmp.Ordering.TheVariants.{Less, Equal, Greater}
 use Rattle.std.proofs.Common.{arith, refl, sym, ap, ◌∙◌}
-use Rattle.std.proofs.lemmas.Int.{ints}
 use Rattle.sc_basis.specs.Products.{dot}
 use Rattle.sc_basis.specs.Lines.{line}
 use Rattle.sc_basis.proofs.LexOrder.{lex_map}
-use Rattle.sc_basis.proofs.RowOrder.{least_first, none_more, least_kept, least_taken}
+use Rattle.sc_basis.proofs.RowOrder.{least_kept, least_taken}
 use Rattle.sc_rows.specs.Lines.{Line, row_of}
 use Rattle.sc_simplex.specs.inside.Orders.{IsLexOrder}
 use Rattle.sc_simplex.specs.Orders.{headed}
@@ -44,16 +43,6 @@ lines_order Greater n f g f' g' e d h = lex_map n g f g' f' (λ k l. d k) (λ k 
 
 -- ---- the best row so far
 module _ (rows : List Line) (b a : ℕ → ℤ) (n : ℕ) where
-  -- a row without a positive product leaves the best row as it is
-  pub best_skips : (best : Option Best) → a n ≤ℤ pos 0 → IsBest rows b a n best → IsBest rows b a (suc n) best
-  best_skips None none h = none_more (length rows) b a (row_of rows) n h none
-  best_skips (Some x) none h =
-      record { least = least_kept (length rows) b a (row_of rows) n x.row h.least (λ p. absurd (omega (arith, ints))); value = h.value }
-
-  -- the first row with a positive product is the best so far
-  pub best_begins : (v : ℤ) → v ≡ dot (length rows) (row_of rows n) b → pos 0 <ℤ a n → IsBest rows b a n None → IsBest rows b a (suc n) (Some (record { row = n; value = v }))
-  best_begins v value positive none = record { least = least_first (length rows) b a (row_of rows) n none positive; value = value }
-
   module _ (v : ℤ) (x : Best) (value : v ≡ dot (length rows) (row_of rows n) b) (positive : pos 0 <ℤ a n) (best : IsBestRow rows b a n x) where
     by_lines : (o : Ordering) → IsLexOrder o (suc (length rows)) (λ k. a x.row *ℤ headed v (row_of rows n) k) (λ k. a n *ℤ headed x.value (row_of rows x.row) k)
         → IsLexOrder o (suc (length rows)) (λ k. a x.row *ℤ line (length rows) b (row_of rows n) k) (λ k. a n *ℤ line (length rows) b (row_of rows x.row) k)

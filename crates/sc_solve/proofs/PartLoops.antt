@@ -1,17 +1,12 @@
 -- Lists that are made row by row, and part by part.
 use Rattle.std.proofs.Common.{◌≡◌, ℕ, zero, suc, ◌+◌, ◌<◌, List, [], ◌∷◌, ◌++◌, length, get_or, set, take, Option, Some, None, ◌≤◌, arith, refl, sym, ap, ap₂, ◌∙◌}
 use Rattle.std.proofs.lemmas.List.{take_more}
-use Rattle.std.proofs.lemmas.Option.{slice_get_within}
-use Rattle.sc_theory.specs.Chains.{Chain}
 use Rattle.sc_chain.specs.declared.polygon.Pivot.{Pivot}
 use Rattle.sc_fraction.specs.declared.frac.Frac.{Frac}
 use Rattle.sc_assembly.specs.declared.parts.Part.{Part}
-use Rattle.sc_assembly.specs.declared.counting.PartsFault.{PartsFault}
-use Rattle.sc_assembly.specs.declared.counting.PartsFault.TheVariants as parts_faults
-use Rattle.sc_assembly.specs.Multiples.{AreCounts, IsFaultOf}
+use Rattle.sc_assembly.specs.Multiples.{AreCounts}
 use Rattle.sc_solve.specs.Solutions.{exchanged}
 use Rattle.sc_solve.specs.inside.Assembling.{part_of, valued}
-use Rattle.sc_solve.specs.Assembling.{IsWithin}
 use Rattle.sc_solve.proofs.PolygonJournals.{exchanged-push}
 
 -- the parts of one more item are those of the items before, and its own behind them
@@ -58,7 +53,3 @@ length-valued (None ∷ items) (v ∷ values) = omega (arith, length-valued item
 length-valued (Some walk ∷ items) (v ∷ values) = omega (arith, length-valued items values)
 
 -- ---- the place of a fault
--- the place that a fault tells is that of a part
-pub fault_within : (c : Chain) (parts : List Part) (fault : PartsFault) → IsFaultOf c parts fault → IsWithin (length parts) fault
-fault_within c parts (parts_faults.Sides part so_far next) is = slice_get_within parts part is.here is.here_is
-fault_within c parts parts_faults.Memory is = tt

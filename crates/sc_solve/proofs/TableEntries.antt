@@ -1,8 +1,7 @@
 -- The distance tables of a square, and the entries in them.
-use Rattle.std.proofs.Common.{◌≡◌, ℕ, zero, suc, ◌+◌, ◌<◌, List, [], ◌∷◌, ◌++◌, length, get_or, length-append, ℤ, Option, None, arith, refl, sym, ap, subst, ◌∙◌, inl, inr}
+use Rattle.std.proofs.Common.{◌≡◌, ℕ, zero, suc, ◌<◌, List, [], ◌∷◌, ◌++◌, length, get_or, ℤ, Option, None, arith, refl, sym, subst, ◌∙◌}
 use Rattle.std.specs.List.{AllByRecursion}
 use Rattle.std.specs.Option.{option_map}
-use Rattle.std.proofs.lemmas.Bool.{cases_lt}
 use Rattle.sc_weight.specs.declared.plain.Plain.{Plain}
 use Rattle.sc_theory.specs.Prices.{Tables, entry}
 use Rattle.sc_text.specs.TableLines.{IsEntryInRange}
@@ -25,22 +24,6 @@ at_end [] x d zero e = refl
 at_end [] x d (suc k) e = absurd (omega arith)
 at_end (y ∷ ys) x d zero e = absurd (omega arith)
 at_end (y ∷ ys) x d (suc k) e = at_end ys x d k (omega arith)
-
-one_longer : {A : Type 0} (xs : List A) (x : A) (n : ℕ) → length xs ≡ n → length (xs ++ x ∷ []) ≡ n + 1
-one_longer xs x n e = length-append xs (x ∷ []) ∙ ap (λ (k : ℕ). k + 1) e
-
--- a table of n entries and the next cell's number behind it are a table of n + 1
-pub entry_more : (t : Square Plain) (s n : ℕ) (table : List (Option ℤ)) (e : Option ℤ) → IsTableOf t s n table → e ≡ option_map number (cell t s n) → IsTableOf t s (n + 1) (table ++ e ∷ [])
-entry_more t s n table e before here =
-    record {
-      len = one_longer table e n before.len;
-      at = λ j inside. elim (cases_lt j n) [
-        | inl less ↦ before_end table e None j (omega (arith, before.len)) ∙ before.at j less
-        | inr past ↦
-            let same : n ≡ j = omega arith in
-            at_end table e None j (omega (arith, before.len)) ∙ here ∙ ap (λ (k : ℕ). option_map number (cell t s k)) same
-      ];
-    }
 
 -- where the numbers of the cells are in the range of entries, so is the whole table
 pub table_small : (t : Square Plain) (s n : ℕ) (table : List (Option ℤ)) → IsTableOf t s n table → ((j : ℕ) → j < n → IsEntryInRange (option_map number (cell t s j))) → AllByRecursion IsEntryInRange table

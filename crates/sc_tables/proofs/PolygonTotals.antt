@@ -74,10 +74,6 @@ take_split (x ∷ xs) (suc k) = let (rest, is) = take_split xs k in (rest, ap (�
 
 -- ---- totals after some steps
 module _ (price : ℕ → ℕ → Levels) (walk : List ℕ) where
-  -- no steps have the total 0
-  pub total-first : zero_levels ≡ total_after price walk 0
-  total-first = refl
-
   -- one step more adds its price
   pub total-next : (k : ℕ) → k < length walk → levels_sum (total_after price walk k) (price (get_or walk k 0) (get_or (round walk) k 0)) ≡ total_after price walk (k + 1)
   total-next k inside =

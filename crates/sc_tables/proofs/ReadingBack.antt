@@ -1,7 +1,6 @@
 -- A walk that is read back from its end.
 use Rattle.std.proofs.Common.{◌≡◌, ℕ, zero, suc, ◌<◌, ◌≤◌, List, [], ◌∷◌, ◌++◌, slice_get, reverse, Some, arith, sym, ap, ap₂, subst, ◌∙◌, length-append}
 use Rattle.std.proofs.lemmas.List.{reverse-append}
-use Rattle.std.proofs.lemmas.Option.{slice_get_within}
 use Rattle.sc_theory.specs.Chains.{Chain, positions}
 use Rattle.sc_theory.specs.Walks.{IsStep}
 use Rattle.sc_weight.specs.Levels.{Levels, zero_levels, levels_sum}
@@ -21,7 +20,7 @@ use Rattle.sc_tables.specs.declared.search.Stop.{Stop}
 use Rattle.sc_tables.specs.declared.search.Stop.TheVariants.{Wide, Memory}
 use Rattle.sc_tables.specs.declared.tables.TableFault.{TableFault}
 use Rattle.sc_tables.specs.CheapPolygons.{IsWideWalk, IsTableFault}
-use Rattle.sc_tables.specs.inside.CheapPolygons.{IsClosedBelow, NamesNode, ShowsStop}
+use Rattle.sc_tables.specs.inside.CheapPolygons.{IsClosedBelow, ShowsStop}
 use Rattle.sc_tables.proofs.WalkLaws.{walks-append, walks_back}
 use Rattle.sc_tables.proofs.LeastTotals.{closed_total-back}
 use Rattle.sc_tables.proofs.Best.{same_item}
@@ -147,11 +146,6 @@ module _ {W : Type 0} (levels : W → Levels) where
 -- ---- the fault of a stop
 
 module _ {W : Type 0} (levels : W → Levels) (t : Square W) (nodes : List (Node W)) where
-  -- a stop of a search names a node and a position
-  pub names_node : (most : ℕ) (stop : Stop) → t.side ≤ 64 → StopsWithin levels t nodes most stop → NamesNode nodes stop
-  names_node most (Wide n to wide) small is = let at = is.stop_is.1 in (slice_get_within nodes n at.here at.here_is, omega (arith, is.inside, is.stop_is.0))
-  names_node most Memory small is = tt
-
   -- what shows a stop of a search is a fault of the tables
   pub stop_shown : (c : Chain) (s : ℕ) (stop : Stop) (fault : TableFault) → AreForChain c t → AreWalks levels t s (positions c) nodes → StopsWithin levels t nodes (positions c) stop → ShowsStop levels nodes stop fault → IsTableFault c (price_in levels t) fault
   stop_shown c s (Wide n to wide) fault fits are is shows =

@@ -2,7 +2,7 @@
 use Rattle.std.proofs.Common.{◌≡◌, ◌≢◌, ◌⊎◌, ℕ, zero, suc, ◌+◌, ◌-◌, ◌<◌, ◌≤◌, List, [], ◌∷◌, ◌++◌, length, get_or, take, drop, ℤ, ◌+ℤ◌, arith, length-drop, refl, sym, ap, subst, ◌∙◌, inl, inr}
 use Rattle.std.specs.List.{AllByRecursion}
 use Rattle.std.proofs.Math.Seq.{take-length}
-use Rattle.std.proofs.lemmas.List.{append-nil, append_assoc, take_more}
+use Rattle.std.proofs.lemmas.List.{append-nil, append_assoc}
 use Rattle.std.proofs.lemmas.Int.{ints}
 use Rattle.sc_theory.specs.Chains.{Chain}
 use Rattle.sc_theory.specs.Walks.{IsClosedWalk, IsPolygon, HasNoRepeat, walk_total, walks_total}
@@ -159,35 +159,11 @@ module _ (c : Chain) (path : List ℕ) (x k : ℕ) (inside : k < length path) (a
   pub passed_simple : HasNoRepeat path → HasNoRepeat (drop k path)
   passed_simple simple = subst HasNoRepeat back_is (simple_back (take k path) (x ∷ from_there.rest) (subst HasNoRepeat was simple))
 
-  stays : take (k + 1) path ≡ take k path ++ x ∷ []
-  stays = let p = from_there in take_more path k 0 inside ∙ ap (λ (y : ℕ). take k path ++ y ∷ []) at
-
-  -- the polygon of that walk is cut off, and the path up to the place stays
-  pub cuts_off : (new : List ℕ) (polygons made : List (List ℕ)) (polygon : List ℕ) → new ≡ take (k + 1) path → IsPolygonOf c (drop k path) polygon → made ≡ polygons ++ polygon ∷ [] → CutsOff c x path new polygons made
-  cuts_off new polygons made polygon cut is added =
-      record {
-        before = take k path;
-        between = from_there.rest;
-        path_was = was;
-        path_is = cut ∙ stays;
-        polygon = polygon;
-        polygon_is = subst (λ (ys : List ℕ). IsPolygonOf c ys polygon) (sym back_is) is;
-        polygons_are = added;
-      }
-
 -- ---- the last step
 
 module _ (c : Chain) (walk path rest : List ℕ) (polygons : List (List ℕ)) (so_far : IsSplitSoFar c walk path rest polygons) (none : rest ≡ []) where
   at_end : path ++ rest ≡ path
   at_end = ap (λ (ys : List ℕ). path ++ ys) none ∙ append-nil path
-
-  -- the path that is left at the end is a closed walk
-  pub last_closed : IsClosedWalk c path
-  last_closed = subst (IsClosedWalk c) at_end so_far.closed
-
-  -- with the polygon of that walk all are polygons, and have the steps of the whole walk
-  pub last_valid : (p : List ℕ) → IsPolygonOf c path p → AllByRecursion (IsPolygon c) (polygons ++ p ∷ [])
-  last_valid p is = all_last (IsPolygon c) polygons p so_far.valid is.valid
 
   pub last_steps : (p : List ℕ) → IsPolygonOf c path p → HaveStepsOf (polygons ++ p ∷ []) walk
   last_steps p is f =

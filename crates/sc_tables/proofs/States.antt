@@ -1,7 +1,7 @@
 -- One round of a search, and its end.
 use Rattle.std.proofs.Common.{◌≡◌, ◌≢◌, ◌⊎◌, ℕ, zero, suc, ◌+◌, ◌<◌, ◌≤◌, List, [], ◌∷◌, length, get_or, slice_get, Option, Some, None, arith, refl, sym, ap, subst, ◌∙◌, inl, inr, length-append}
 use Rattle.std.proofs.lemmas.Bool.{cases_lt, cases_eq}
-use Rattle.sc_theory.specs.Chains.{Chain, positions}
+use Rattle.sc_theory.specs.Chains.{Chain}
 use Rattle.sc_theory.specs.Walks.{IsStep}
 use Rattle.sc_weight.specs.Levels.{Levels, zero_levels, levels_sum}
 use Rattle.sc_tables.specs.Squares.{Square, cell}
@@ -169,11 +169,6 @@ module _ {W : Type 0} (levels : W → Levels) (c : Chain) (t : Square W) (thresh
 
 -- ---- the first state, and the end after all rounds
 module _ {W : Type 0} (levels : W → Levels) (c : Chain) (t : Square W) (threshold : Levels) (s : ℕ) (nodes : List (Node W)) (table : List (Option ℕ)) where
-  -- after as many rounds as there are positions the search has ended
-  pub all_done : (fresh : ℕ) → IsState levels c t threshold s (positions c) fresh nodes table → IsDone levels c t threshold s nodes table
-  all_done fresh state =
-      record { len = state.len; ends = state.ends; under_each = λ j js leads short. state.under_each j js leads (omega arith); back = state.back }
-
   -- the table that names the walk without steps alone is the state after no rounds
   pub first_state : s < t.side → IsBegun levels t.side s nodes table → IsState levels c t threshold s 0 0 nodes table
   first_state inside begun = at_node begun.node

@@ -104,17 +104,6 @@ pub record IsReading (text rest : List ℕ) (n : ℕ) (read : List RawLine) : Ty
   pub entries : read ≡ raw_lines 1 (take n (text_lines text))
   pub ranges : All IsRawLine read
 
--- at the start no line is read
-pub start : (text : List ℕ) → IsReading text text 0 []
-start text =
-    record {
-      rest_is = refl;
-      within = omega arith;
-      cases = λ k low high. absurd (omega arith);
-      entries = refl;
-      ranges = All-nil IsRawLine;
-    }
-
 -- the next line
 pub record IsNext (text rest : List ℕ) (n : ℕ) (line : Line) : Type 0 where
   pub inside : n < length (text_lines text)
